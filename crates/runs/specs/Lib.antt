@@ -1,0 +1,3 @@
+pub mod Entry
+pub mod Run
+pub mod Spot

@@ -1,0 +1,4 @@
+pub mod Slots
+pub mod Rows
+pub mod Places
+pub mod Table

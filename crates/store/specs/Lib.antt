@@ -1,0 +1,4 @@
+pub mod Order
+pub mod Vars
+pub mod Limits
+pub mod Lawful
