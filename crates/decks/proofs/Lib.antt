@@ -1,0 +1,3 @@
+pub mod Rests
+pub mod Walking
+pub mod Kept

@@ -1,0 +1,5 @@
+pub mod Model
+pub mod ActiveLaw
+pub mod Allowances
+pub mod Views
+pub mod Walk
