@@ -1,0 +1,12 @@
+pub mod Striking
+pub mod Roles
+pub mod Doing
+pub mod Replaying
+pub mod Living
+pub mod Turning
+pub mod Keeping
+pub mod Isolating
+pub mod Computing
+pub mod Happening
+pub mod Cornering
+pub mod Examples
