@@ -6,6 +6,9 @@
 //! `packed_runs`, `found_memory` and `side_by_side` is written for any store.
 use packed::PackedRun;
 use packed::PackedStore;
+use slots::Slot;
+use slots::SlotStore;
+use slots::SlotTable;
 use std::alloc::Global;
 use std::error::AnyError;
 use store::Refusal;
@@ -155,8 +158,19 @@ fn found_memory(rt: &LibcRuntime) -> Result<(), AnyError> {
     work(rt, &mut again, Operation::Value(b"a"))
 }
 
-/// Whether two packed runs over memories of these sizes, once cleared, answer the table alike.
-fn side_by_side(
+/// Whether two stores, once cleared, answer the table alike.
+fn side_by_side<A: Store, B: Store>(a: &mut A, b: &mut B, table: &[String]) -> bool {
+    let mut alike = work_all_both(a, b, &[Operation::Clear, Operation::MostNames]);
+    for line in table {
+        if let Some(operation) = operation_of(line.as_str()) {
+            alike &= work_both(a, b, operation);
+        }
+    }
+    alike
+}
+
+/// Two packed runs over memories of these sizes.
+fn packed_beside_packed(
     rt: &LibcRuntime,
     table: &[String],
     first: usize,
@@ -164,17 +178,35 @@ fn side_by_side(
 ) -> Result<(), AnyError> {
     let mut memory = vec![in rt.alloc(); 1u8; first]?;
     let mut other = vec![in rt.alloc(); 200u8; second]?;
-    let mut a = PackedRun::new(&mut memory);
-    let mut b = PackedRun::new(&mut other);
-    let mut alike = work_all_both(&mut a, &mut b, &[Operation::Clear, Operation::Count]);
-    for line in table {
-        if let Some(operation) = operation_of(line.as_str()) {
-            alike &= work_both(&mut a, &mut b, operation);
-        }
-    }
+    let alike = side_by_side(
+        &mut PackedRun::new(&mut memory),
+        &mut PackedRun::new(&mut other),
+        table,
+    );
     println!(
         rt,
         "packed runs over {first} and {second} bytes answer alike: {alike}"
+    )?;
+    Ok(())
+}
+
+/// A slot table and a packed run over so much memory; at 32 slots and 2,624 bytes their limits are equal.
+fn slots_beside_packed(
+    rt: &LibcRuntime,
+    table: &[String],
+    slots: usize,
+    bytes: usize,
+) -> Result<(), AnyError> {
+    let mut memory = vec![in rt.alloc(); Slot::empty(); slots]?;
+    let mut other = vec![in rt.alloc(); 200u8; bytes]?;
+    let alike = side_by_side(
+        &mut SlotTable::new(&mut memory),
+        &mut PackedRun::new(&mut other),
+        table,
+    );
+    println!(
+        rt,
+        "{slots} slots and a packed run over {bytes} bytes answer alike: {alike}"
     )?;
     Ok(())
 }
@@ -192,7 +224,9 @@ fn main(rt: LibcRuntime) -> Result<(), AnyError> {
     let table = read_table(&rt, rt.alloc())?;
     packed_runs(&rt, table.as_slice())?;
     found_memory(&rt)?;
-    side_by_side(&rt, table.as_slice(), 0, 64)?;
-    side_by_side(&rt, table.as_slice(), 65, 66)?;
-    side_by_side(&rt, table.as_slice(), 4160, 5000)
+    packed_beside_packed(&rt, table.as_slice(), 0, 64)?;
+    packed_beside_packed(&rt, table.as_slice(), 65, 66)?;
+    packed_beside_packed(&rt, table.as_slice(), 4160, 5000)?;
+    slots_beside_packed(&rt, table.as_slice(), 32, 2624)?;
+    slots_beside_packed(&rt, table.as_slice(), 31, 2624)
 }
