@@ -1,0 +1,5 @@
+pub mod Deciding
+pub mod Meaning
+pub mod Calls
+pub mod Answers
+pub mod Copying
