@@ -4,6 +4,7 @@
 //! A shelf means a list of decks. Its cards, bindings, tasks and assignments have numbers, and a
 //! view of one part names the parts below it by their numbers. Nothing is copied: a text is handed
 //! out as a part of the shelf's memory, with its place there.
+#![tactic(auto)]
 ghost use Rattle.std.specs.Prelude.{◌≡◌, ℕ, ◌+◌, ◌-◌, ◌<◌, ◌≤◌, List, ◌++◌, map, length, take, IfSome, Some, None, OnSome};
 ghost use Rattle.std.specs.List.{range_with_len, slice_get};
 ghost use Rattle.decks.specs.Model.{Deck, deck_at, with_id, named, card_at, enter_of, offers, has, pressed};

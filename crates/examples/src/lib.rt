@@ -1,4 +1,5 @@
 //! Worked examples of the definitions, proved as one list.
+#![tactic(auto)]
 ghost use Rattle.examples.specs.Examples.{WorkedExamples};
 
 /// Does nothing: its contract is the list.

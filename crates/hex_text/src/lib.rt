@@ -1,4 +1,5 @@
 //! Bytes written as hexadecimal digits.
+#![tactic(auto)]
 ghost use Rattle.std.specs.Prelude.{◌<◌, IfSome};
 
 use anyhow::anyhow;

@@ -1,4 +1,6 @@
 //! Names of variables, and which pairs of a name and a value can be stored.
+#![tactic(auto)]
+
 ghost use Rattle.std.specs.Prelude.{◌≡◌};
 ghost use Rattle.names.specs.Names.{starts_name, continues_name, all_continue, is_name, storable_name, storable};
 

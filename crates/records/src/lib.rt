@@ -1,4 +1,5 @@
 //! A shelf that holds records in five lent tables, with a lent pool of text.
+#![tactic(auto)]
 ghost use Rattle.std.specs.Prelude.{◌≡◌, [], None, OnSome};
 ghost use Rattle.decks.specs.Allowances.{Allowed};
 ghost use Rattle.tables.specs.Meaning.{numbers, places_of};

@@ -3,6 +3,7 @@
 //! An entry is the value's length, the name's length, the name, the value. A run is read from the front up
 //! to the first entry that does not count, so any bytes at all mean some variables. A value length of 0
 //! ends a run.
+#![tactic(auto)]
 ghost use Rattle.std.specs.Prelude.{◌≡◌, ℕ, ◌+◌, ◌-◌, ◌<◌, ◌≤◌, true, [], ◌∷◌, ◌++◌, length, take, drop, if◌then◌else◌, slice_index};
 ghost use Rattle.names.specs.Names.{storable};
 ghost use Rattle.store.specs.Vars.{look, assign};

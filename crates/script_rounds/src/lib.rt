@@ -1,4 +1,5 @@
 //! The four handhelds of a script: A and B over packed runs, C and D over slot tables.
+#![tactic(auto)]
 use decks::Shelf;
 use packed::{MOST_MEMORY, PackedRun};
 use records::RecordShelf;

@@ -1,4 +1,5 @@
 //! The words of a script line, bytes as a script writes them, and the buffers that it lends.
+#![tactic(auto)]
 use std::alloc::{AllocError, AllocFailed, Global};
 use std::mem;
 
