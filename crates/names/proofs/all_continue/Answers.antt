@@ -4,8 +4,8 @@ use Rattle.std.proofs.lemmas.List.{at_drop_more, at_drop_all}
 use Rattle.names.specs.Names.{all_continue}
 use Rattle.names.proofs.all_continue.Goals as goal
 
-pub returns-then-not-continues-name : goal.returns-then-not-continues-name
-returns-then-not-continues-name c =
+pub returns-then-not-continues_name : goal.returns-then-not-continues_name
+returns-then-not-continues_name c =
     let s = at_drop_more all_continue c.args.bytes.now c.loop-b.b-index 0 c.loop-b-test.true in
     let i = c.loop-b.invariant in
     grind (arith, nat_tests)

@@ -8,7 +8,7 @@ opened : (n : Bytes) → starts_name (get_or n 0 0) ≡ true → is_name n ≡ a
 opened [] e = grind (arith, nat_tests)
 opened (x ∷ xs) e = grind (arith, nat_tests)
 
-pub returns-then-starts-name : goal.returns-then-starts-name
-returns-then-starts-name c =
+pub returns-then-starts_name : goal.returns-then-starts_name
+returns-then-starts_name c =
     let n = c.args.name.now in
-    c.all-continue.ensures ∙ ap all_continue (take_rest n 1) ∙ sym (opened n (sym c.starts-name.ensures ∙ c.if-starts-name.true))
+    c.all_continue.ensures ∙ ap all_continue (take_rest n 1) ∙ sym (opened n (sym c.starts_name.ensures ∙ c.if-starts_name.true))
