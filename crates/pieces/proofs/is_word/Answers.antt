@@ -9,14 +9,14 @@ use Rattle.pieces.proofs.is_word.Goals as goal
 pub returns-then-text-word : goal.returns-then-text-word
 returns-then-text-word c = sym (same-long _ _ c.if-text-word.true)
 
-pub returns-then-to-ascii-lowercase-word : goal.returns-then-to-ascii-lowercase-word
-returns-then-to-ascii-lowercase-word c =
+pub returns-then-to_ascii_lowercase-word : goal.returns-then-to_ascii_lowercase-word
+returns-then-to_ascii_lowercase-word c =
     let e = same_at c.args.text.now c.args.word.now c.loop-i.i (omega arith) (omega arith) in
-    sym (sym c.loop-i.invariant.0 ∙ e ∙ and_left _ _ (ne_eqb _ _ (λ q. c.if-to-ascii-lowercase-word.true (c.to-ascii-lowercase.ensures.value ∙ q))))
+    sym (sym c.loop-i.invariant.0 ∙ e ∙ and_left _ _ (ne_eqb _ _ (λ q. c.if-to_ascii_lowercase-word.true (c.to_ascii_lowercase.ensures.value ∙ q))))
 
 pub loop-i-preserved : goal.loop-i-preserved
 loop-i-preserved c =
-    let e = same_step c.args.text.now c.args.word.now c.loop-i.i (omega arith) (omega arith) (sym c.to-ascii-lowercase.ensures.value ∙ c.if-to-ascii-lowercase-word.false) in
+    let e = same_step c.args.text.now c.args.word.now c.loop-i.i (omega arith) (omega arith) (sym c.to_ascii_lowercase.ensures.value ∙ c.if-to_ascii_lowercase-word.false) in
     (sym e ∙ c.loop-i.invariant.0, c.loop-i.invariant.1)
 
 pub returns : goal.returns

@@ -5,14 +5,14 @@ use Rattle.address.specs.Layout.{layout_of}
 use Rattle.address.proofs.Parts.{found, not_found, kept, dropped, whole_part, host-part, path-part, deck-part, fragment-part}
 use Rattle.address.proofs.memory.Address.checked.Goals as goal
 
-pub overflow-add-deck : goal.overflow-add-deck
-overflow-add-deck c =
+pub overflow_add-deck : goal.overflow_add-deck
+overflow_add-deck c =
     let f = found (take c.args.len c.args.bytes) c.in-Some.field-0 (c.in-Some.ensures.value ∙ ap layout_of (whole_part c.args.bytes c.args.len)) in
     let l = length-take c.args.len c.args.bytes in
     omega arith
 
-pub invariant-of-result : goal.invariant-of-result
-invariant-of-result c =
+pub invariant_of-result : goal.invariant_of-result
+invariant_of-result c =
     let m = c.args.bytes in
     let n = c.args.len in
     let d = c.in-Some.field-0.deck in

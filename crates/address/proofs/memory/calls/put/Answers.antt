@@ -5,7 +5,7 @@ use Rattle.address.proofs.memory.calls.put.Goals as goal
 
 pub returns : goal.returns
 returns c =
-    let e = c.copy-from-slice.ensures.after in
+    let e = c.copy_from_slice.ensures.after in
     let k = ap length e in
-    take-put_mid c.args.at _ c.args.bytes.now c.copy-from-slice.new.self _ (omega arith) (omega arith)
+    take-put_mid c.args.at _ c.args.bytes.now c.copy_from_slice.new.self _ (omega arith) (omega arith)
     ∙ ap (λ l. take c.args.at c.args.bytes.now ++ l) e
