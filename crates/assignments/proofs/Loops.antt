@@ -116,7 +116,7 @@ unchanged : (m : Vars) (xs : List Pair) (i : ℕ) (x : Pair) (nm old : Bytes) �
 unchanged m xs i x nm old di h e en eo =
     eo ∙ (ap (look m) en ∙ sym (look-put_all (pairs_of (take i xs)) m (name_of x) (ap (λ z. lacks (name_of z) (pairs_of (take i xs))) e ∙ lacks-take xs i x h di)))
 
-pub tally-can : (m : Vars) (xs : List Pair) (i k w : ℕ) (x : Pair) (nm vl old : Bytes) → sorted m ≡ true → sound m ≡ true → size m ≤ 60000 → weight m ≤ 60000 → distinct (pairs_of xs) ≡ true → length xs ≤ 16 →
+pub tally-can : (m : Vars) (xs : List Pair) (i k w : ℕ) (x : Pair) (nm vl old : Bytes) → sorted m ≡ true → sound m ≡ true → size m ≤ 64 → weight m ≤ 5120 → distinct (pairs_of xs) ≡ true → length xs ≤ 16 →
     Tallied m xs i k w → i < length xs → x ≡ get_or xs i x → nm ≡ name_of x → vl ≡ value_of x → old ≡ look m nm → Afterable (length nm) (length vl) (length old) k w
 tally-can m xs i k w x nm vl old o s sk sw di le t h e en ev eo =
     let n = name_of x in

@@ -8,12 +8,12 @@ use Rattle.decks.specs.Model.{Deck}
 use Rattle.tables.specs.declared.Counts.{Counts}
 use Rattle.tables.specs.declared.Cause.{Cause}
 use Rattle.tables.specs.declared.Cause.TheVariants.{Size, Form, Sum}
-use Rattle.tables.specs.Records.{no_tables, counts_of}
+use Rattle.tables.specs.Records.{counts_of}
 use Rattle.tables.specs.Meaning.{deck_no, listed}
-use Rattle.tables.specs.Verdict.{unless, judgement, under, tables_under}
+use Rattle.tables.specs.Verdict.{unless, judgement, under}
 use Rattle.tables.proofs.Laws.{passed}
 use Rattle.file_records.specs.Layout.{deck_in, card_in, binding_in, task_in, assignment_in}
-use Rattle.file_tables.specs.File.{counts_of_file, total, size_ok, form_ok, sum_ok, frame, counts_under, no_counts, counts_in, row, deck_place, card_place, binding_place, task_place, assignment_place, tabled, verdict, decks_in, bytes_under}
+use Rattle.file_tables.specs.File.{counts_of_file, total, size_ok, form_ok, sum_ok, frame, counts_under, no_counts, counts_in, row, deck_place, card_place, binding_place, task_place, assignment_place, tabled, verdict, decks_in}
 
 -- three tests in a row, and what is left to judge
 abbrev chain : Bool → Bool → Bool → Option Cause → Option Cause
@@ -153,13 +153,3 @@ by-frame xs (Some x) e =
 
 pub by_tables : (xs : List ℕ) → decks_in xs ≡ under (judgement (tabled xs)) (listed (tabled xs))
 by_tables xs = by-frame xs (frame xs) refl
-
--- no bytes have no tables
-empty_tables : tabled [] ≡ no_tables
-unfolding counts_in frame
-empty_tables = refl
-
--- so what is refused is read as no tables
-pub read_tables : (v : Option Cause) (xs : List ℕ) → tabled (bytes_under v xs) ≡ tables_under v (tabled xs)
-read_tables None xs = refl
-read_tables (Some c) xs = empty_tables

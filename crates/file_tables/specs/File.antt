@@ -1,5 +1,5 @@
 -- A shelf file: its parts, the tables in it, its verdict and the decks that it means. Assumes nothing.
-use Rattle.std.specs.Prelude.{ℕ, ◌+◌, ◌-◌, ◌*◌, Bool, ◌&&◌, List, [], map, length, take, Some, None, Option, ◌==◌, nat_le}
+use Rattle.std.specs.Prelude.{ℕ, ◌+◌, ◌-◌, ◌*◌, Bool, ◌&&◌, List, map, length, take, Some, None, Option, ◌==◌, nat_le}
 use Rattle.std.specs.List.{range_with_len}
 use Rattle.decks.specs.Model.{Deck}
 use Rattle.tables.specs.declared.Counts.{Counts}
@@ -85,8 +85,3 @@ verdict xs = unless (size_ok xs) Size (unless (form_ok xs) Form (unless (sum_ok 
 -- the decks that a file means; one that is refused means none
 abbrev pub decks_in : List ℕ → List Deck
 decks_in xs = under (verdict xs) (listed (tabled xs))
-
--- the bytes that are read under a verdict: of what is refused none
-abbrev pub bytes_under : Option Cause → List ℕ → List ℕ
-bytes_under None xs = xs
-bytes_under (Some c) xs = []

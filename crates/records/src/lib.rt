@@ -1,9 +1,9 @@
 //! A shelf that holds records in five lent tables, with a lent pool of text.
 #![tactic(auto)]
-ghost use Rattle.std.specs.Prelude.{◌≡◌, [], None, OnSome};
+ghost use Rattle.std.specs.Prelude.{◌≡◌};
 ghost use Rattle.decks.specs.Allowances.{Allowed};
 ghost use Rattle.tables.specs.Meaning.{numbers, places_of};
-ghost use Rattle.tables.specs.Verdict.{judgement, tables_under};
+ghost use Rattle.tables.specs.Verdict.{judgement};
 ghost use Rattle.tables.proofs.Laws.{under-kept};
 ghost use Rattle.records.specs.Lent.{tabled, decks_in};
 
@@ -87,62 +87,34 @@ impl Tables for RecordTables<'_> {
     }
 }
 
-/// The tables that are read under a verdict: empty ones, where the records are refused.
-fn read_under<'a>(lent: RecordTables<'a>, verdict: Option<Cause>) -> RecordTables<'a>
-    ensures lent { verdict ≡ None → result ≡ lent.entry }
-    ensures read { tabled result ≡ tables_under verdict (tabled lent.entry) }
-{
-    match verdict {
-        None => lent,
-        Some(_) => RecordTables {
-            pool: &[],
-            decks: &[],
-            cards: &[],
-            bindings: &[],
-            tasks: &[],
-            assignments: &[],
-        },
-    }
-}
-
-/// A shelf over lent records. It is always made; where the records are refused, it has no decks, and
-/// none of them is read any more: every question is answered as on an empty shelf.
+/// A shelf over lent records. It is always made; where the records are refused, it has no decks.
 #[derive(Clone, Copy)]
 pub struct RecordShelf<'a> {
-    lent: RecordTables<'a>,
     tables: RecordTables<'a>,
     verdict: Option<Cause>,
-    ghost judged: { verdict ≡ judgement (tabled lent) },
-    ghost read: { verdict ≡ None → tables ≡ lent },
+    ghost judged: { verdict ≡ judgement (tabled tables) },
 }
 
 impl<'a> RecordShelf<'a> {
-    /// The shelf over lent records, which are judged here, once. Its decks keep every allowance;
-    /// records that are refused mean none, and the tables that are then read have nothing in them.
+    /// The shelf over lent records, which are judged here, once. Its decks keep every allowance.
     pub fn over(tables: RecordTables<'a>) -> RecordShelf<'a>
-        ensures lent { result.lent ≡ tables.entry }
+        ensures lent { result.tables ≡ tables.entry }
         ensures allowed { Allowed (decks_in tables.entry) }
-        ensures refused { OnSome (judgement (tabled tables.entry)) (decks_in tables.entry ≡ []) }
-        ensures read { tabled result.tables ≡ tables_under (judgement (tabled tables.entry)) (tabled tables.entry) }
     {
         let verdict = judgement_of(&tables);
-        RecordShelf {
-            lent: tables,
-            tables: read_under(tables, verdict),
-            verdict,
-        }
+        RecordShelf { tables, verdict }
     }
 
     /// The cause for which the records are refused, if any: the first one.
     pub fn refusal(&self) -> Option<Cause>
-        ensures { result ≡ judgement (tabled self.now.lent) }
+        ensures { result ≡ judgement (tabled self.now.tables) }
     {
         self.verdict
     }
 }
 
 impl Shelf for RecordShelf<'_> {
-    ghost decks = { λ s. decks_in s.lent };
+    ghost decks = { λ s. decks_in s.tables };
 
     ghost parts = { λ s. numbers (tabled s.tables) };
 
@@ -150,7 +122,7 @@ impl Shelf for RecordShelf<'_> {
 
     ghost places = { λ s. places_of (tabled s.tables) };
 
-    ghost lawful = { λ s. under-kept (judgement (tabled s.lent)) (tabled s.lent) (λ e. e) };
+    ghost lawful = { λ s. under-kept (judgement (tabled s.tables)) (tabled s.tables) (λ e. e) };
 
     fn deck(&self, k: usize) -> Option<DeckView<'_>> {
         listed_deck(&self.tables, self.verdict, k)

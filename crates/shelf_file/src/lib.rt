@@ -3,9 +3,9 @@
 ghost use Rattle.std.specs.Prelude.{◌≡◌, [], OnSome};
 ghost use Rattle.decks.specs.Allowances.{Allowed};
 ghost use Rattle.tables.specs.Meaning.{numbers, places_of, listed};
-ghost use Rattle.tables.specs.Verdict.{judgement, under, tables_under};
+ghost use Rattle.tables.specs.Verdict.{judgement, under};
 ghost use Rattle.tables.proofs.Laws.{under-kept};
-ghost use Rattle.file_tables.specs.File.{tabled, verdict, decks_in, bytes_under};
+ghost use Rattle.file_tables.specs.File.{tabled, verdict, decks_in};
 ghost use Rattle.file_tables.proofs.Frames.{verdict-passes};
 
 use decks::{AssignmentView, BindingView, CardView, DeckView, Shelf, TaskView};
@@ -24,59 +24,39 @@ fn verdict_on(tables: &FileTables) -> Option<Cause>
     }
 }
 
-/// The tables that are read under a verdict: those of no bytes, where the file is refused.
-fn read_under<'a>(tables: FileTables<'a>, cause: Option<Cause>) -> FileTables<'a>
-    ensures { result.bytes.now ≡ bytes_under cause tables.entry.bytes.now }
-{
-    match cause {
-        None => tables,
-        Some(_) => FileTables::of(&[]),
-    }
-}
-
-/// A shelf over the bytes of a file. It is always made; where the file is refused, it has no decks,
-/// and no byte of the file is read any more: every question is answered as on an empty shelf.
+/// A shelf over the bytes of a file. It is always made; where the file is refused, it has no decks.
 #[derive(Clone, Copy)]
 pub struct FileShelf<'a> {
-    bytes: &'a [u8],
     tables: FileTables<'a>,
     cause: Option<Cause>,
-    ghost judged: { cause ≡ verdict bytes.now },
-    ghost read: { tables.bytes.now ≡ bytes_under cause bytes.now },
+    ghost judged: { cause ≡ verdict tables.bytes.now },
 }
 
 impl<'a> FileShelf<'a> {
     /// The shelf over a file, which is judged here, once. Its decks keep every allowance and are
     /// those of its tables, as a shelf over the same records has them; a file that is refused has
-    /// none, and the tables that are then read have nothing in them.
+    /// none.
     pub fn open(bytes: &'a [u8]) -> FileShelf<'a>
-        ensures file { result.bytes.now ≡ bytes.now }
+        ensures file { result.tables.bytes.now ≡ bytes.now }
         ensures allowed { Allowed (decks_in bytes.now) }
         ensures tables { decks_in bytes.now ≡ under (judgement (tabled bytes.now)) (listed (tabled bytes.now)) }
         ensures refused { OnSome (verdict bytes.now) (decks_in bytes.now ≡ []) }
-        ensures read { tabled result.tables.bytes.now ≡ tables_under (verdict bytes.now) (tabled bytes.now) }
-        ensures memory { result.tables.bytes.now ≡ bytes_under (verdict bytes.now) bytes.now }
     {
-        let file = FileTables::of(bytes);
-        let cause = verdict_on(&file);
-        let tables = read_under(file, cause);
-        FileShelf {
-            bytes,
-            tables,
-            cause,
-        }
+        let tables = FileTables::of(bytes);
+        let cause = verdict_on(&tables);
+        FileShelf { tables, cause }
     }
 
     /// The cause for which the file is refused, if any: the first one.
     pub fn refusal(&self) -> Option<Cause>
-        ensures { result ≡ verdict self.now.bytes.now }
+        ensures { result ≡ verdict self.now.tables.bytes.now }
     {
         self.cause
     }
 }
 
 impl Shelf for FileShelf<'_> {
-    ghost decks = { λ s. decks_in s.bytes.now };
+    ghost decks = { λ s. decks_in s.tables.bytes.now };
 
     ghost parts = { λ s. numbers (tabled s.tables.bytes.now) };
 
@@ -84,7 +64,7 @@ impl Shelf for FileShelf<'_> {
 
     ghost places = { λ s. places_of (tabled s.tables.bytes.now) };
 
-    ghost lawful = { λ s. under-kept (verdict s.bytes.now) (tabled s.bytes.now) (verdict-passes s.bytes.now) };
+    ghost lawful = { λ s. under-kept (verdict s.tables.bytes.now) (tabled s.tables.bytes.now) (verdict-passes s.tables.bytes.now) };
 
     fn deck(&self, k: usize) -> Option<DeckView<'_>> {
         listed_deck(&self.tables, self.cause, k)

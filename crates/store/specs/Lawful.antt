@@ -8,5 +8,5 @@ pub record Lawful {S : Type 0} (meaning : S → Vars) (limits : S → Limits) : 
   pub few_bytes : (s : S) → weight (meaning s) ≤ (limits s).bytes
   pub ordered : (s : S) → sorted (meaning s) ≡ true
   pub pairs : (s : S) → sound (meaning s) ≡ true
-  pub most_names : (s : S) → (limits s).names ≤ 60000
-  pub most_bytes : (s : S) → (limits s).bytes ≤ 60000
+  pub most_names : (s : S) → (limits s).names ≤ 64
+  pub most_bytes : (s : S) → (limits s).bytes ≤ 5120

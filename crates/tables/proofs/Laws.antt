@@ -215,13 +215,3 @@ under-kept None t h =
     let a = passed (addressed (addresses t)) Address None s.1 in
     listed_kept t s.0 a.0
 under-kept (Some c) t h = record { few = omega arith; each = tt; apart = tt }
-
--- the decks under a verdict are listed by any tables that are the same where it accepts
-pub under_same : (v : Option Cause) (t u : Tabled) → (v ≡ None → t ≡ u) → under v (listed t) ≡ under v (listed u)
-under_same None t u e = ap listed (e refl)
-under_same (Some c) t u e = refl
-
--- what is refused has no decks
-pub under-refused : (v : Option Cause) (ds : List Deck) → IfSome v (λ _. under v ds ≡ [])
-under-refused None ds = tt
-under-refused (Some c) ds = refl

@@ -1,5 +1,5 @@
 -- Five tables of records and a pool of text. Assumes nothing.
-use Rattle.std.specs.Prelude.{ℕ, List, [], length}
+use Rattle.std.specs.Prelude.{ℕ, List, length}
 use Rattle.decks.specs.declared.Run.{Run}
 use Rattle.tables.specs.declared.Ref.{Ref}
 use Rattle.tables.specs.declared.Counts.{Counts}
@@ -19,10 +19,6 @@ pub record Tabled : Type 0 where
   pub bindings : List BindingRecord
   pub tasks : List TaskRecord
   pub assignments : List AssignmentRecord
-
--- nothing in any of them
-abbrev pub no_tables : Tabled
-no_tables = record { pool = []; decks = []; cards = []; bindings = []; tasks = []; assignments = [] }
 
 -- how many bytes the pool has, and how many records each table
 abbrev pub counts_of : Tabled → Counts

@@ -7,7 +7,7 @@ use Rattle.tables.specs.declared.Cause.{Cause}
 use Rattle.tables.specs.declared.Cause.TheVariants.{Size, Form, Sum, Record, Address}
 use Rattle.tables.specs.declared.Table.{Table}
 use Rattle.tables.specs.declared.Table.TheVariants.{Decks, Cards, Bindings, Tasks, Assignments}
-use Rattle.tables.specs.Records.{Tabled, no_tables, counts_of, no_deck, no_card, no_binding, no_task, no_assignment}
+use Rattle.tables.specs.Records.{Tabled, counts_of, no_deck, no_card, no_binding, no_task, no_assignment}
 use Rattle.tables.specs.Tests.{deck_ok, card_ok, binding_ok, task_ok, assignment_ok, counts_ok}
 use Rattle.tables.specs.Meaning.{text_of, listed}
 
@@ -70,8 +70,3 @@ judgement t = unless (sound t) Record (unless (addressed (addresses t)) Address 
 abbrev pub under : Option Cause → List Deck → List Deck
 under None ds = ds
 under (Some c) ds = []
-
--- the tables that are read under a verdict: of what is refused nothing
-abbrev pub tables_under : Option Cause → Tabled → Tabled
-tables_under None t = t
-tables_under (Some c) t = no_tables

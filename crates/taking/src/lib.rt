@@ -58,7 +58,7 @@ fn fill_short<S: Store>(
 }
 
 /// The pair of assignment `k`, filled; nothing where its name result is no name.
-fn filled_pair<S: Store>(
+pub fn filled_pair<S: Store>(
     store: &S,
     kind: Kind,
     k: u8,
