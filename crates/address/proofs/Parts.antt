@@ -7,7 +7,6 @@ use Rattle.std.proofs.lemmas.Bool.{cases_Bool, cases_lt, cond-true, cond-false}
 use Rattle.address.specs.declared.layout.Layout.{Layout}
 use Rattle.address.specs.Layout.{places_of, layout_of}
 use Rattle.address.specs.Resolve.{if_lawful}
-use Rattle.address.specs.Bytes.{after}
 use Rattle.address.specs.Address.{scheme, hash, slash, host_of, path_of, fragment_of, deck_of, lawful}
 use Rattle.address.proofs.Cuts.{before-take, after-drop, length_before}
 use Rattle.address.proofs.Runs.{parts_of, rest_of, shape, path-exact, deck-split}

@@ -1,16 +1,14 @@
 -- A lawful address, read once from the left: what the scan of its runs decides.
-use Rattle.std.proofs.Common.{◌≡◌, ℕ, suc, ◌+◌, ◌-◌, ◌<◌, ◌≤◌, Bool, true, false, ◌&&◌, eqb, ltb, leb, List, [], ◌∷◌, ◌++◌, length, get_or, take, drop, Some, None, Decides, sym, refl, ap, ◌∙◌, inl, inr, append-nil, one-add, arith, length-append, rules}
-use Rattle.std.specs.List.{prefix_len}
+use Rattle.std.proofs.Common.{◌≡◌, ℕ, suc, ◌+◌, ◌<◌, ◌≤◌, Bool, true, false, ◌&&◌, eqb, ltb, leb, List, [], ◌∷◌, ◌++◌, length, get_or, take, drop, Some, None, sym, refl, ap, ◌∙◌, inl, inr, append-nil, one-add, arith, length-append}
+use Rattle.std.specs.List.{prefix_len, starts_with}
 use Rattle.std.proofs.lemmas.List.{append_cancel_left, take_at, drop_at, drop-drop, take-append-drop, length-take-le}
 use Rattle.std.proofs.lemmas.List.Sums.{prefix_len-le-length}
 use Rattle.std.proofs.lemmas.Bool.{cases_Bool, cond-true, cond-false, and_parts, and_left, and_right, eqb-true, eq-eqb, both_ways, ltb-true, leb-true, lt-ltb, le-leb, lt-leb, false≢true}
-use Rattle.std.specs.Cmp.Lexicographic.{Matches}
-use Rattle.std.proofs.lemmas.Slice.Eq.{bytes_eq-Decides, slice_eq-Decides}
+use Rattle.std.proofs.lemmas.Slice.Eq.{bytes_eq-Decides}
 use Rattle.address.specs.Bytes.{every, has, before, after, begins}
 use Rattle.address.specs.Address.{scheme, hash, slash, is_host_byte, is_path_byte, is_host, is_path, host_of, path_of, fragment_of, deck_of, lawful}
 use Rattle.address.specs.Layout.{closes, places_of, layout_of}
 use Rattle.address.proofs.Cuts.{before-take, before-append, after-append, every-lacks, every-run, every-length, Stops}
-use Rattle.std.proofs.lemmas.Bool.Decides.{Decides-eqb}
 
 and-true : (x y : Bool) → ((x && true) && y) ≡ (x && y)
 and-true true y = refl
@@ -98,9 +96,9 @@ pub record Parts (a : List ℕ) : Type 0 where
   pub fragment : every is_path_byte (fragment_of a) ≡ true
 
 -- what `starts_with` finds is what `begins` says
-pub begins-tested : (f xs : List ℕ) (r : Bool) → Matches (λ (a b : ℕ) (t : Bool). Decides t (a ≡ b)) f (take (length f) xs) r → r ≡ begins f xs
+pub begins-tested : (f xs : List ℕ) (r : Bool) → r ≡ starts_with eqb xs f → r ≡ begins f xs
 unfolding begins
-begins-tested f xs r m = let d = slice_eq-Decides Decides-eqb f (take (length f) xs) r m in search (rules, bytes_eq-Decides)
+begins-tested f xs r m = m
 
 -- bytes that begin with a front are that front and the rest
 pub begins-is : (f xs : List ℕ) → begins f xs ≡ true → xs ≡ f ++ drop (length f) xs

@@ -3,6 +3,7 @@
 //! An address is `http://`, a host, a path, and perhaps `#` and a fragment, in at most 128 bytes. What precedes the `#` is the
 //! address of a deck, and the fragment names a card in it.
 #![tactic(auto)]
+
 ghost use Rattle.std.specs.Prelude.{◌≡◌};
 ghost use Rattle.address.specs.Bytes.{has};
 ghost use Rattle.address.specs.Address.{lawful, is_deck_address};

@@ -19,25 +19,17 @@ invariant_of-result c =
     let f = found (take n m) c.in-Some.field-0 (c.in-Some.ensures.value ∙ ap layout_of (whole_part m n)) in
     let room : length m ≡ 128 = search rules in
     let l = length-take-le n m (omega arith) in
-    let q : c.min.result ≡ min n (d + 1) = c.min.ensures in (
-      room,
-      (
-        c.requires,
-        (
-          (omega arith, f.order, omega arith, omega arith),
-          (
-            f.holds,
-            (
-              host-part m n c.in-Some.field-0.path f.path (omega arith),
-              (
-                path-part m n c.in-Some.field-0.path d f.holds f.path f.deck (omega arith),
-                (deck-part m n d f.deck (omega arith), (fragment-part m n d c.min.result f.deck q (omega arith), tt)),
-              ),
-            ),
-          ),
-        ),
-      ),
-    )
+    let q : c.min.result ≡ min n (d + 1) = c.min.ensures in
+    record {
+      room = room;
+      within = c.requires;
+      order = (omega arith, f.order, omega arith, omega arith);
+      holds = f.holds;
+      hosts = host-part m n c.in-Some.field-0.path f.path (omega arith);
+      paths = path-part m n c.in-Some.field-0.path d f.holds f.path f.deck (omega arith);
+      decks = deck-part m n d f.deck (omega arith);
+      fragments = fragment-part m n d c.min.result f.deck q (omega arith);
+    }
 
 pub returns-in-Some : goal.returns-in-Some
 returns-in-Some c =
