@@ -1,5 +1,5 @@
 -- Adding an assignment to a list, in place of an earlier one of its name. Assumes nothing.
-use Rattle.std.proofs.Common.{◌≡◌, ℕ, suc, ◌+◌, ◌-◌, ◌<◌, ◌≤◌, Bool, true, false, cond, not, ◌&&◌, ◌⊎◌, List, [], ◌∷◌, ◌++◌, length, take, drop, set, Decides, filter, sym, refl, ap, ◌∙◌, ⊎_elim, arith, length-append, length-drop, length-take}
+use Rattle.std.proofs.Common.{◌≡◌, ℕ, suc, ◌+◌, ◌-◌, ◌<◌, ◌≤◌, Bool, true, false, not, List, [], ◌∷◌, ◌++◌, length, take, drop, set, Decides, filter, sym, refl, ap, ◌∙◌, ⊎_elim, arith, length-append, length-drop, length-take}
 use Rattle.std.specs.Str.{bytes_eq}
 use Rattle.std.proofs.lemmas.Bool.Decides.{same_from_decides}
 use Rattle.std.proofs.lemmas.Slice.Eq.{bytes_eq-Decides}
@@ -10,7 +10,7 @@ use Rattle.store.specs.Vars.{Vars, lacks, without, size}
 use Rattle.store.proofs.Order.{same_sym}
 use Rattle.store.proofs.Assigns.{lacks-without, lacks-without-other, size-without_le}
 use Rattle.assignments.specs.declared.pair.Pair.{Pair}
-use Rattle.assignments.specs.Joint.{put_all, added, gathered}
+use Rattle.assignments.specs.Joint.{put_all, added}
 use Rattle.assignments.specs.Pairs.{name_of, value_of, pairs_of, distinct}
 use Rattle.assignments.specs.Laws.{InTurn}
 use Rattle.assignments.proofs.Alls.{later-counts}

@@ -1,14 +1,13 @@
 -- What several assignments do to the variables, together and one by one. Assumes nothing.
-use Rattle.std.proofs.Common.{◌≡◌, ℕ, zero, suc, ◌+◌, ◌-◌, ◌*◌, ◌<◌, ◌≤◌, Bool, true, false, cond, not, ◌&&◌, eqb, leb, ◌⊎◌, List, [], ◌∷◌, ◌++◌, length, sym, refl, ap, ◌∙◌, ⊎_elim, arith}
+use Rattle.std.proofs.Common.{◌≡◌, ℕ, ◌+◌, ◌*◌, ◌≤◌, Bool, true, false, cond, not, ◌&&◌, leb, [], ◌∷◌, ◌++◌, length, sym, refl, ap, ◌∙◌, ⊎_elim, arith}
 use Rattle.std.specs.Str.{bytes_eq}
-use Rattle.std.proofs.lemmas.Bool.Decides.{nat_tests}
-use Rattle.std.proofs.lemmas.Bool.{and_parts, and_from, leb-true, le-leb, not-true, not_from_false, cases_Bool}
-use Rattle.names.specs.Names.{Bytes, storable, storable_name, is_name}
+use Rattle.std.proofs.lemmas.Bool.{and_parts, and_from, leb-true, le-leb, not-true, cases_Bool}
+use Rattle.names.specs.Names.{Bytes, storable, storable_name}
 use Rattle.store.specs.Vars.{Vars, lacks, without, insert, keep, assign, look, size, weight, sorted, sound}
-use Rattle.store.specs.Limits.{Limits, within, one, load}
+use Rattle.store.specs.Limits.{Limits, within}
 use Rattle.store.proofs.Order.{same_sym, same-is, same_refl}
-use Rattle.store.proofs.Assigns.{is_nil, lacks-without, without-lacking, lacks-without-other, without_comm, without-insert-other, lacks-insert, size-assign, weight-assign, look-assign, sorted-without, sorted-assign, sound-assign, size-without_le, weight-without_le, storable-lengths, totalled}
-use Rattle.assignments.specs.Joint.{put_all, added, gathered}
+use Rattle.store.proofs.Assigns.{is_nil, lacks-without, without-lacking, lacks-without-other, without_comm, without-insert-other, lacks-insert, size-assign, weight-assign, look-assign, sorted-without, sorted-assign, sound-assign, size-without_le, weight-without_le, storable-lengths}
+use Rattle.assignments.specs.Joint.{put_all}
 use Rattle.assignments.specs.Unsetting.{without_all, lacks_all}
 use Rattle.assignments.specs.Pairs.{distinct}
 

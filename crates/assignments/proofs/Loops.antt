@@ -1,10 +1,10 @@
 -- The loops over pairs in memory: unsetting, setting and counting them one by one. Assumes nothing.
-use Rattle.std.proofs.Common.{◌≡◌, ℕ, zero, suc, ◌+◌, ◌-◌, ◌*◌, ◌<◌, ◌≤◌, Bool, true, false, not, ◌&&◌, List, [], ◌∷◌, ◌++◌, length, get_or, take, drop, Ok, Err, Result, sym, refl, ap, ◌∙◌, arith, length-take}
+use Rattle.std.proofs.Common.{◌≡◌, ℕ, zero, suc, ◌+◌, ◌-◌, ◌<◌, ◌≤◌, true, false, not, List, [], ◌∷◌, ◌++◌, length, get_or, take, drop, Ok, Err, Result, sym, refl, ap, ◌∙◌, arith, length-take}
 use Rattle.std.specs.Str.{bytes_eq}
 use Rattle.std.proofs.lemmas.Bool.Decides.{nat_tests}
 use Rattle.std.proofs.lemmas.Bool.{and_parts, and_from, not-true, not_from_false}
 use Rattle.std.proofs.lemmas.List.{take_more, at_drop_more}
-use Rattle.names.specs.Names.{Bytes, storable}
+use Rattle.names.specs.Names.{Bytes}
 use Rattle.store.specs.declared.Refusal.{Refusal}
 use Rattle.store.specs.Vars.{Vars, lacks, without, assign, look, size, weight, sorted, sound}
 use Rattle.store.specs.Limits.{Limits, within, one, load}

@@ -1,5 +1,6 @@
 //! Assignments that are made together, over any store: all of them or none.
 #![tactic(auto)]
+
 ghost use Rattle.std.specs.Prelude.{◌≡◌, ◌≤◌, true, false, [], length, take, Ok, Err, MatchResult};
 ghost use Rattle.names.specs.Names.{storable};
 ghost use Rattle.store.specs.declared.Refusal.TheVariants.{Unstorable};

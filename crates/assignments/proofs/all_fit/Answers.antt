@@ -1,4 +1,4 @@
-use Rattle.std.proofs.Common.{◌≡◌, ℕ, Bool, ◌&&◌, leb, length, take, sym, refl, ap, ◌∙◌, arith}
+use Rattle.std.proofs.Common.{◌≡◌, ℕ, Bool, ◌&&◌, leb, ap, ◌∙◌, arith}
 use Rattle.std.proofs.lemmas.List.{take_all}
 use Rattle.store.specs.Vars.{size, weight}
 use Rattle.assignments.specs.Joint.{put_all}
@@ -26,4 +26,4 @@ pub returns : goal.returns
 returns g c =
     let m = g.S.Store.meaning c.args.store.now in
     let t = take_all c.loop-p.p-index c.args.pairs.now c.loop-p-test.false in
-    ruled _ _ _ _ _ _ _ _ _ c.within.ensures (c.loop-p.invariant.counted ∙ ap (λ z. size (put_all m (pairs_of z))) t) (c.loop-p.invariant.weighed ∙ ap (λ z. weight (put_all m (pairs_of z))) t) c.most-names.ensures c.most-bytes.ensures
+    ruled _ _ _ _ _ _ _ _ _ c.within.ensures (c.loop-p.invariant.counted ∙ ap (λ z. size (put_all m (pairs_of z))) t) (c.loop-p.invariant.weighed ∙ ap (λ z. weight (put_all m (pairs_of z))) t) c.most_names.ensures c.most_bytes.ensures

@@ -1,16 +1,16 @@
 use Rattle.std.proofs.Common.{◌<◌, length, ap, ◌∙◌, arith}
-use Rattle.std.proofs.lemmas.Slice.Eq.{slice_eq-Decides}
+use Rattle.std.specs.Str.{bytes_eq}
+use Rattle.std.proofs.lemmas.Slice.Eq.{bytes_eq-Decides}
 use Rattle.std.proofs.lemmas.List.Filters.{FiltersInPlace-all, FiltersInPlace-more_no, FiltersInPlace-more_set}
 use Rattle.assignments.specs.Pairs.{pairs_of}
 use Rattle.assignments.proofs.Adding.{tested, others-kept}
 use Rattle.assignments.proofs.keep_others.Goals as goal
 use Rattle.assignments.proofs.keep_others.Goals.{then-ne, else-ne}
-use Rattle.std.proofs.lemmas.Bool.Decides.{Decides-eqb}
 
 pub loop-i-preserved : goal.loop-i-preserved
 loop-i-preserved c =
     let x = c.index-pairs-i.result in
-    let t = tested c.ne.result c.ne.ensures.0 c.name.result.now c.args.name.now x (slice_eq-Decides Decides-eqb _ _ _ c.ne.ensures.1) c.ne.ensures.2 c.name.ensures in
+    let t = tested c.ne.result (bytes_eq c.name.result.now c.args.name.now) c.name.result.now c.args.name.now x (bytes_eq-Decides _ _) c.ne.ensures c.name.ensures in
     let h : c.loop-i.i < length c.loop-i.pairs = omega arith in
     elim c.if-ne.branch [
       | then-ne w ↦ rw (w.pairs-is, w.others-is) (FiltersInPlace-more_set c.loop-i.invariant h (t ∙ w.if-ne.true) c.index-pairs-i.is)

@@ -1,6 +1,4 @@
-use Rattle.std.proofs.Common.{◌≡◌, Bool, true, false, cond, Ok, Err, Result, sym, refl, ap, ◌∙◌}
-use Rattle.store.specs.declared.Refusal.{Refusal}
-use Rattle.store.specs.declared.Refusal.TheVariants.{NoRoom}
+use Rattle.std.proofs.Common.{◌≡◌, true, Ok, sym, refl, ap, ◌∙◌}
 use Rattle.store.specs.Vars.{Vars, sorted}
 use Rattle.store.specs.Limits.{Limits, within}
 use Rattle.assignments.specs.Joint.{put_all, jointly}
@@ -19,16 +17,16 @@ can l l' m m' ps o d e f w = ap (within l') (same_end m m' ps o d e) ∙ (ap (λ
 made : (l : Limits) (m ps : Vars) → within l (put_all m ps) ≡ true → Ok tt ≡ jointly l m ps
 made l m ps w = rw w refl
 
-pub set-all-requires : goal.set-all-requires
-set-all-requires g c =
+pub set_all-requires : goal.set_all-requires
+set_all-requires g c =
     let s = c.args.store.now in
     let m = g.S.Store.meaning s in
     let ps = pairs_of c.args.pairs.now in
-    let u = c.unset-all.ensures in
+    let u = c.unset_all.ensures in
     record {
       apart = c.requires.apart;
       unset = ap (λ z. lacks_all z ps) u.outcome ∙ lacks_all-without_all ps m;
-      fits = can (g.S.Store.limits s) _ m _ ps (g.S.Store.lawful.ordered s) c.requires.apart u.outcome u.limits (sym c.all-fit.ensures ∙ c.if-not-all-fit.false);
+      fits = can (g.S.Store.limits s) _ m _ ps (g.S.Store.lawful.ordered s) c.requires.apart u.outcome u.limits (sym c.all_fit.ensures ∙ c.if-not-all_fit.false);
     }
 
 pub returns : goal.returns
@@ -36,9 +34,9 @@ returns g c =
     let s = c.args.store.now in
     let m = g.S.Store.meaning s in
     let ps = pairs_of c.args.pairs.now in
-    let u = c.unset-all.ensures in
+    let u = c.unset_all.ensures in
     record {
-      limits = c.set-all.ensures.limits ∙ u.limits;
-      answer = made (g.S.Store.limits s) m ps (sym c.all-fit.ensures ∙ c.if-not-all-fit.false);
-      outcome = c.set-all.ensures.outcome ∙ same_end m _ ps (g.S.Store.lawful.ordered s) c.requires.apart u.outcome;
+      limits = c.set_all.ensures.limits ∙ u.limits;
+      answer = made (g.S.Store.limits s) m ps (sym c.all_fit.ensures ∙ c.if-not-all_fit.false);
+      outcome = c.set_all.ensures.outcome ∙ same_end m _ ps (g.S.Store.lawful.ordered s) c.requires.apart u.outcome;
     }

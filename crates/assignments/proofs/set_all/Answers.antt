@@ -1,10 +1,10 @@
-use Rattle.std.proofs.Common.{◌≡◌, true, [], sym, refl, ap, ◌∙◌, arith}
+use Rattle.std.proofs.Common.{◌≡◌, true, sym, refl, ap, ◌∙◌}
 use Rattle.std.proofs.lemmas.List.{at_drop_all}
 use Rattle.names.specs.Names.{storable}
 use Rattle.store.specs.Vars.{assign}
 use Rattle.store.proofs.Assigns.{verdict_ok}
 use Rattle.assignments.specs.Joint.{put_all}
-use Rattle.assignments.specs.Pairs.{name_of, value_of, pairs_of}
+use Rattle.assignments.specs.Pairs.{name_of, pairs_of}
 use Rattle.assignments.proofs.Loops.{granted, setting-fits, setting-more}
 use Rattle.assignments.proofs.set_all.Goals as goal
 

@@ -1,4 +1,4 @@
-use Rattle.std.proofs.Common.{◌≡◌, true, drop}
+use Rattle.std.proofs.Common.{◌≡◌, drop}
 use Rattle.assignments.specs.Unsetting.{without_all}
 use Rattle.assignments.specs.Pairs.{pairs_of}
 use Rattle.assignments.proofs.unset_all.Given as goal

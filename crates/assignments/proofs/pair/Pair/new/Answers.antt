@@ -3,11 +3,15 @@ use Rattle.names.specs.Names.{storable}
 use Rattle.store.proofs.Assigns.{storable-lengths}
 use Rattle.assignments.proofs.pair.Pair.new.Goals as goal
 
-pub invariant-of-result : goal.invariant-of-result
-invariant-of-result c =
-    let st : storable c.args.name.now c.args.value.now ≡ true = sym c.is-storable.ensures ∙ c.if-not-is-storable.false in
+pub invariant_of-result : goal.invariant_of-result
+invariant_of-result c =
+    let st : storable c.args.name.now c.args.value.now ≡ true = sym c.is_storable.ensures ∙ c.if-not-is_storable.false in
     let l = storable-lengths c.args.name.now c.args.value.now st in
-    (l.0, (l.1, (ap (λ z. storable z (take (length c.args.value.now) c.copy-front-2.new.to)) c.copy-front.ensures ∙ (ap (storable c.args.name.now) c.copy-front-2.ensures ∙ st), tt)))
+    record {
+      name_fits = l.0;
+      value_fits = l.1;
+      pair = ap (λ z. storable z (take (length c.args.value.now) c.copy_front-2.new.to)) c.copy_front.ensures ∙ (ap (storable c.args.name.now) c.copy_front-2.ensures ∙ st);
+    }
 
 pub returns : goal.returns
-returns c = (sym c.is-storable.ensures ∙ c.if-not-is-storable.false, c.copy-front.ensures, c.copy-front-2.ensures)
+returns c = (sym c.is_storable.ensures ∙ c.if-not-is_storable.false, c.copy_front.ensures, c.copy_front-2.ensures)
