@@ -1,12 +1,11 @@
 -- Every piece lies within its text. Assumes nothing.
-use Rattle.std.proofs.Common.{◌≡◌, ℕ, ◌+◌, ◌-◌, ◌<◌, ◌≤◌, Bool, true, false, cond, eqb, ltb, length, get_or, take, drop, Some, None, Option, sym, ap, ◌∙◌, inl, inr, arith, length-drop}
+use Rattle.std.proofs.Common.{◌≡◌, ℕ, ◌+◌, ◌<◌, ◌≤◌, true, eqb, ltb, length, get_or, take, drop, Some, None, Option, inl, inr, arith, length-drop}
 use Rattle.std.specs.List.{prefix_len}
 use Rattle.std.proofs.lemmas.List.{get_or_past}
 use Rattle.std.proofs.lemmas.List.Sums.{prefix_len-le-length}
 use Rattle.std.proofs.lemmas.Bool.{cases_Bool, cond_both, eqb-true, eqb-false, ltb-true, ltb-false}
 use Rattle.names.specs.Names.{Bytes, starts_name, continues_name}
 use Rattle.pieces.specs.declared.Conversion.{Conversion}
-use Rattle.pieces.specs.declared.Piece.{Piece}
 use Rattle.pieces.specs.declared.Piece.TheVariants.{Literal, Reference, Broken}
 use Rattle.pieces.specs.Words.{name_len, conversion_of}
 use Rattle.pieces.specs.Pieces.{converted, closed, bracket, bare, piece, Within}

@@ -1,5 +1,5 @@
 -- A text is read from left to right, piece by piece. Assumes nothing.
-use Rattle.std.specs.Prelude.{ℕ, ◌+◌, ◌≤◌, Bool, cond, List, take, drop, Some, None, Option, ◌==◌, slice_index}
+use Rattle.std.specs.Prelude.{ℕ, ◌+◌, ◌≤◌, cond, take, drop, Some, None, Option, ◌==◌, slice_index}
 use Rattle.names.specs.Names.{Bytes}
 use Rattle.pieces.specs.declared.Conversion.{Conversion}
 use Rattle.pieces.specs.declared.Piece.{Piece}

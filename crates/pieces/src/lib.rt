@@ -1,5 +1,6 @@
 //! The pieces of a text: bytes that stand for themselves, and references to variables.
 #![tactic(auto)]
+
 ghost use Rattle.std.specs.Prelude.{◌≡◌, ℕ, ◌+◌, ◌-◌, ◌*◌, ◌<◌, ◌≤◌, length, drop, slice_index};
 ghost use Rattle.pieces.specs.Words.{name_len, same_word, conversion_of};
 ghost use Rattle.pieces.specs.Pieces.{piece, bracket, closed, Within};

@@ -1,7 +1,6 @@
-use Rattle.std.proofs.Common.{◌≡◌, ◌<◌, true, ◌&&◌, eqb, length, get_or, drop, sym, refl, ap, ◌∙◌, arith}
-use Rattle.std.specs.Char.{to_ascii_lowercase}
+use Rattle.std.proofs.Common.{sym, ◌∙◌, arith}
 use Rattle.std.proofs.lemmas.List.{drop_all}
-use Rattle.std.proofs.lemmas.Bool.{and_left, ne_eqb, eq-eqb}
+use Rattle.std.proofs.lemmas.Bool.{and_left, ne_eqb}
 use Rattle.pieces.specs.Words.{same_word}
 use Rattle.pieces.proofs.Fronts.{same-long, same_at, same_step}
 use Rattle.pieces.proofs.is_word.Goals as goal

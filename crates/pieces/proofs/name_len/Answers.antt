@@ -1,8 +1,7 @@
-use Rattle.std.proofs.Common.{◌≡◌, ◌-◌, length, get_or, drop, sym, ap, ◌∙◌, arith, length-drop}
+use Rattle.std.proofs.Common.{◌≡◌, ◌-◌, drop, sym, ◌∙◌, arith, length-drop}
 use Rattle.std.specs.List.{prefix_len}
 use Rattle.std.proofs.lemmas.List.Sums.{prefix_len-drop_yes, prefix_len-drop_no, prefix_len-drop_all, prefix_len-le-length}
 use Rattle.names.specs.Names.{continues_name}
-use Rattle.pieces.specs.Words.{name_len}
 use Rattle.pieces.proofs.Fronts.{starts, no_start}
 use Rattle.pieces.proofs.name_len.Goals as goal
 use Rattle.pieces.proofs.name_len.Goals.{then-loop-i-test+else-continues_name, else-loop-i-test}
