@@ -1,5 +1,5 @@
 -- Escaping: what an address cannot hold becomes a percent sign and two hexadecimal digits. Assumes nothing.
-use Rattle.std.specs.Prelude.{ℕ, ◌+◌, ◌/◌, ◌%◌, Bool, cond, ◌||◌, List, [], ◌∷◌, ◌==◌, nat_lt}
+use Rattle.std.specs.Prelude.{ℕ, ◌+◌, ◌/◌, ◌%◌, Bool, cond, ◌||◌, [], ◌∷◌, ◌==◌, nat_lt}
 use Rattle.names.specs.Names.{Bytes, between, is_letter, is_digit}
 
 -- - _ . ! ~ * ' ( ), the marks that need no escape

@@ -1,5 +1,5 @@
 -- Unescaping: a percent sign and two hexadecimal digits become one byte again, and all else stays. Assumes nothing.
-use Rattle.std.specs.Prelude.{◌≡◌, ℕ, ◌+◌, ◌-◌, ◌*◌, ◌<◌, ◌≤◌, Bool, cond, ◌&&◌, ◌||◌, List, [], ◌∷◌, length, ◌==◌, nat_le}
+use Rattle.std.specs.Prelude.{◌≡◌, ℕ, ◌+◌, ◌-◌, ◌*◌, ◌<◌, ◌≤◌, Bool, cond, ◌&&◌, ◌||◌, [], ◌∷◌, length, ◌==◌, nat_le}
 use Rattle.std.specs.List.{AllByRecursion as All}
 use Rattle.names.specs.Names.{Bytes, between, is_digit}
 use Rattle.convert.specs.Escape.{escape}

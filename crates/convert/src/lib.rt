@@ -2,6 +2,7 @@
 //!
 //! Each comes as a count of the bytes it gives and as a writer into lent memory.
 #![tactic(auto)]
+
 ghost use Rattle.std.specs.Prelude.{◌≡◌, ℕ, ◌+◌, ◌*◌, ◌<◌, ◌≤◌, true, ◌&&◌, length};
 ghost use Rattle.std.proofs.lemmas.List.Edits.{sets};
 ghost use Rattle.convert.specs.Escape.{kept, upper_digit, escape};

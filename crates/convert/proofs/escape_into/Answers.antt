@@ -1,8 +1,8 @@
-use Rattle.std.proofs.Common.{◌≡◌, length, drop, sym, refl, ap, ◌∙◌, arith, length-set}
+use Rattle.std.proofs.Common.{sym, arith, length-set}
 use Rattle.std.proofs.lemmas.List.{at_drop_all}
 use Rattle.convert.specs.Escape.{escape}
 use Rattle.convert.proofs.Laws.{escape-kept, escape-coded}
-use Rattle.convert.proofs.Writing.{Toward, has_room, has_room3, push, push3, done}
+use Rattle.convert.proofs.Writing.{has_room, has_room3, push, push3, done}
 use Rattle.convert.proofs.escape_into.Goals as goal
 use Rattle.convert.proofs.escape_into.Goals.{then-is_kept, else-is_kept}
 
