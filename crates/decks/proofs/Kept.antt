@@ -1,9 +1,9 @@
 -- What is found among allowed parts is allowed. Assumes nothing.
-use Rattle.std.proofs.Common.{◌≡◌, ℕ, zero, suc, Bool, true, false, cond, List, [], ◌∷◌, ◌++◌, IfSome, Some, None, Option, sym, refl, ap, ◌∙◌, subst, arith}
+use Rattle.std.proofs.Common.{◌≡◌, ℕ, zero, suc, Bool, true, false, cond, List, [], ◌∷◌, ◌++◌, IfSome, Some, None, Option, subst, arith}
 use Rattle.std.specs.List.{slice_get, AllByRecursion as All}
 use Rattle.std.specs.Str.{bytes_eq}
 use Rattle.std.proofs.ByRecursion.{All-append}
-use Rattle.decks.specs.Model.{Task, Binding, Card, Deck, first, else-other, head, deck_at, with_id, named, card_at, enter_of, has, actives, offers, active, pressed}
+use Rattle.decks.specs.Model.{Binding, Card, Deck, first, else-other, head, named, card_at, enter_of, has, actives, offers, active, pressed}
 use Rattle.decks.specs.Allowances.{TaskAllowed, BindingAllowed, CardAllowed, DeckAllowed, PerhapsAllowed}
 
 -- what holds of the one in a `Some`

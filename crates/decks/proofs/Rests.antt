@@ -1,10 +1,8 @@
 -- What is left of a list, and of a run of numbers. Assumes nothing.
-use Rattle.std.proofs.Common.{◌≡◌, ℕ, zero, suc, ◌+◌, ◌-◌, ◌<◌, ◌≤◌, Bool, true, false, cond, ltb, List, [], ◌∷◌, ◌++◌, map, length, drop, Some, None, Decides, Option, sym, refl, ap, ◌∙◌, subst, ⊎_elim, append-nil, add-one, arith}
+use Rattle.std.proofs.Common.{◌≡◌, ℕ, zero, suc, ◌+◌, ◌-◌, ◌<◌, ◌≤◌, Bool, true, false, cond, eqb, ltb, List, [], ◌∷◌, ◌++◌, map, length, drop, Some, None, sym, refl, ap, ◌∙◌, ⊎_elim, append-nil, add-one, arith}
 use Rattle.std.specs.List.{range_with_len, slice_get}
-use Rattle.std.specs.Cmp.Lexicographic.{Matches}
+use Rattle.std.specs.Cmp.Lexicographic.{pointwise}
 use Rattle.std.specs.Str.{bytes_eq}
-use Rattle.std.proofs.lemmas.Slice.Eq.{slice_eq-Decides, bytes_eq-Decides}
-use Rattle.std.proofs.lemmas.Bool.Decides.{same_from_decides, Decides-eqb}
 use Rattle.std.proofs.lemmas.Bool.{cond-true, cond-false, lt-ltb, le-ltb, cases_lt}
 use Rattle.decks.specs.declared.Run.{Run}
 use Rattle.decks.specs.Views.{opt, run, number_in}
@@ -45,8 +43,8 @@ pub first-end : {X : Type 0} (p : X → Bool) (rest : List X) → rest ≡ [] �
 first-end p rest e = ap (first p) e
 
 -- `==` on slices
-pub same-is : (xs ys : List ℕ) (r : Bool) → Matches (λ (a b : ℕ) (t : Bool). Decides t (a ≡ b)) xs ys r → bytes_eq xs ys ≡ r
-same-is xs ys r m = same_from_decides _ _ (bytes_eq-Decides xs ys) (slice_eq-Decides Decides-eqb xs ys r m)
+pub same-is : (xs ys : List ℕ) (r : Bool) → r ≡ pointwise eqb xs ys → bytes_eq xs ys ≡ r
+same-is xs ys r m = sym m
 
 -- a loop over a run that looks for the first that passes: y is what number i means
 module _ {X : Type 0} (p : X → Bool) (f : ℕ → X) (i e : ℕ) where

@@ -1,5 +1,5 @@
 -- What a deck, a card, a binding, a task and an assignment mean, and the questions that a browser asks of them. Texts are lists of bytes. Assumes nothing.
-use Rattle.std.specs.Prelude.{ℕ, Bool, true, false, cond, ◌||◌, List, [], ◌∷◌, ◌++◌, take, drop, Some, None, Option}
+use Rattle.std.specs.Prelude.{ℕ, Bool, false, cond, ◌||◌, List, [], ◌∷◌, ◌++◌, take, drop, Some, None, Option}
 use Rattle.std.specs.Str.{bytes_eq}
 use Rattle.decks.specs.declared.Kind.{Kind}
 

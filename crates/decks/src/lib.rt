@@ -5,6 +5,7 @@
 //! view of one part names the parts below it by their numbers. Nothing is copied: a text is handed
 //! out as a part of the shelf's memory, with its place there.
 #![tactic(auto)]
+
 ghost use Rattle.std.specs.Prelude.{◌≡◌, ℕ, ◌+◌, ◌-◌, ◌<◌, ◌≤◌, List, ◌++◌, map, length, take, IfSome, Some, None, OnSome};
 ghost use Rattle.std.specs.List.{range_with_len, slice_get};
 ghost use Rattle.decks.specs.Model.{Deck, deck_at, with_id, named, card_at, enter_of, offers, has, pressed};
@@ -12,7 +13,7 @@ ghost use Rattle.decks.specs.ActiveLaw.{ActiveReads};
 ghost use Rattle.decks.specs.Allowances.{Allowed, DeckAllowed};
 ghost use Rattle.decks.specs.Views.{Numbered, Placed, Lies, opt, run, number_in, deck_of, card_of, binding_of, task_of, assignment_of};
 ghost use Rattle.decks.specs.Handed.{DeckLies, CardLies, BindingLies, AssignmentLies, DeckPlaced, CardBetween, CardPlaced, OfferPlaced, BindingPlaced, AssignmentPlaced};
-ghost use Rattle.decks.specs.Walk.{Walks};
+ghost use Rattle.decks.specs.Walk.{Walks, StandsBefore};
 
 /// What a task does: nothing, set out for its address, set out for the address before, or set
 /// variables and stand.
@@ -288,6 +289,7 @@ pub fn next_active<'a, S: Shelf>(
     i: usize,
 ) -> Option<Walked<'a>>
     ensures walks { Walks (S.Shelf.parts shelf.now) (offers (deck_of (S.Shelf.parts shelf.now) deck.now) (card_of (S.Shelf.parts shelf.now) card.now)) i result }
+    ensures pinned { IfSome result (StandsBefore (S.Shelf.parts shelf.now) (offers (deck_of (S.Shelf.parts shelf.now) deck.now) (card_of (S.Shelf.parts shelf.now) card.now))) }
     ensures reads { ActiveReads }
     ensures lies { IfSome result (λ v. BindingLies (S.Shelf.memory shelf.now) v.binding) }
     ensures placed { IfSome result (λ v. BindingPlaced (S.Shelf.parts shelf.now) (S.Shelf.places shelf.now) deck.now card.now v.binding) }

@@ -1,4 +1,4 @@
-use Rattle.std.proofs.Common.{◌≡◌, Some, sym, ap, ◌∙◌}
+use Rattle.std.proofs.Common.{Some, sym, ap, ◌∙◌}
 use Rattle.decks.specs.Views.{opt}
 use Rattle.decks.proofs.Rests.{nth_number, number_is}
 use Rattle.decks.proofs.assignment_of.Goals as goal

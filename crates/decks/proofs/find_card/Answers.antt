@@ -1,4 +1,4 @@
-use Rattle.std.proofs.Common.{◌≡◌, Some, ap, ◌∙◌, arith}
+use Rattle.std.proofs.Common.{Some, ap, ◌∙◌, arith}
 use Rattle.decks.specs.Model.{else-other, head}
 use Rattle.decks.specs.Views.{run}
 use Rattle.decks.proofs.Rests.{head-run}
@@ -9,7 +9,7 @@ returns-then-deck-gt0 g c =
     let n = g.S.Shelf.parts c.args.shelf.now in
     let r = c.args.deck.now.cards in
     record {
-      found = ap Some c.card.ensures.means ∙ head-run n.cards r.first r.count c.if-deck-gt0.true ∙ ap (λ o. else-other o (head (run n.cards r))) c.in-default.ensures.found;
+      found = ap Some c.card.ensures.means ∙ head-run n.cards r.first r.count c.if-deck-gt0.true ∙ ap (λ o. else-other o (head (run n.cards r))) c.in_default.ensures.found;
       lies = c.card.ensures.lies;
       placed = record {
         number = r.first;

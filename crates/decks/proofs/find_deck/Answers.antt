@@ -1,4 +1,4 @@
-use Rattle.std.proofs.Common.{◌≡◌, ◌+◌, Bool, drop, sym, refl, ap, ◌∙◌, arith}
+use Rattle.std.proofs.Common.{◌+◌, Bool, drop, sym, ◌∙◌, arith}
 use Rattle.std.specs.Str.{bytes_eq}
 use Rattle.decks.specs.Model.{Deck}
 use Rattle.decks.specs.Views.{deck_of}
@@ -33,4 +33,4 @@ pub returns : goal.returns
 returns g c =
     let all = g.S.Shelf.decks c.args.shelf.now in
     let p : Deck → Bool = λ d. bytes_eq d.address c.args.address.now in
-    record { lies = tt; placed = tt; allowed = tt; found = sym (first-end p (drop c.loop-deck.k all) (drop-none all c.loop-deck.k c.in-default.ensures.means)) ∙ c.loop-deck.invariant.1 }
+    record { lies = tt; placed = tt; allowed = tt; found = sym (first-end p (drop c.loop-deck.k all) (drop-none all c.loop-deck.k c.in_default.ensures.means)) ∙ c.loop-deck.invariant.1 }

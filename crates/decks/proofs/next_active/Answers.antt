@@ -1,6 +1,6 @@
-use Rattle.std.proofs.Common.{◌≡◌, ◌+◌, ◌-◌, sym, refl, ap, ◌∙◌, arith}
+use Rattle.std.proofs.Common.{◌≡◌, ◌+◌, ◌-◌, sym, ap, ◌∙◌, arith}
 use Rattle.decks.specs.Walk.{Steps}
-use Rattle.decks.specs.Model.{Binding, offers, active_from}
+use Rattle.decks.specs.Model.{offers, active_from}
 use Rattle.decks.specs.Views.{deck_of, card_of, binding_of}
 use Rattle.decks.proofs.Rests.{nth-below}
 use Rattle.decks.proofs.Walking.{stands, passed, over, reads}
@@ -17,10 +17,9 @@ returns-then-not-hidden g c =
       later = omega arith;
       within = omega (arith, nth-below all c.loop-binding.at x c.in-Some.ensures.found);
       more = sym c.loop-binding.invariant.1 ∙ active;
-      here = ap (active_from all) before ∙ active;
     } in
     let h = c.in-Some.ensures in
-    record { walks = step; reads = reads; lies = h.lies; placed = record { at = c.loop-binding.at; offer = h.placed; earliest = sym c.hidden.ensures ∙ c.if-not-hidden.true } }
+    record { walks = step; pinned = ap (active_from all) before ∙ active; reads = reads; lies = h.lies; placed = record { at = c.loop-binding.at; offer = h.placed; earliest = sym c.hidden.ensures ∙ c.if-not-hidden.true } }
 
 pub loop-binding-smaller : goal.loop-binding-smaller
 loop-binding-smaller g c =
@@ -39,4 +38,4 @@ pub returns : goal.returns
 returns g c =
     let n = g.S.Shelf.parts c.args.shelf.now in
     let all = offers (deck_of n c.args.deck.now) (card_of n c.args.card.now) in
-    record { walks = sym c.loop-binding.invariant.1 ∙ over all c.loop-binding.at c.in-default.ensures.found; reads = reads; lies = tt; placed = tt }
+    record { walks = sym c.loop-binding.invariant.1 ∙ over all c.loop-binding.at c.in_default.ensures.found; pinned = tt; reads = reads; lies = tt; placed = tt }
