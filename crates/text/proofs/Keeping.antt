@@ -1,8 +1,7 @@
 -- The laws of filling. Assumes nothing.
-use Rattle.std.proofs.Common.{◌≡◌, ℕ, zero, suc, ◌+◌, ◌-◌, ◌*◌, ◌<◌, ◌≤◌, Bool, true, false, cond, not, ◌&&◌, eqb, leb, List, [], ◌∷◌, ◌++◌, length, get_or, take, drop, Some, None, Option, sym, refl, ap, ◌∙◌, arith, length-append}
+use Rattle.std.proofs.Common.{◌≡◌, ℕ, zero, suc, ◌+◌, ◌-◌, ◌*◌, ◌<◌, ◌≤◌, true, false, not, eqb, leb, List, [], ◌∷◌, ◌++◌, length, take, drop, Some, None, Option, sym, refl, ap, ◌∙◌, arith, length-append}
 use Rattle.std.proofs.lemmas.Bool.{cond_both, cond-false, and_parts}
 use Rattle.names.specs.Names.{Bytes}
-use Rattle.convert.specs.Escape.{escape}
 use Rattle.convert.proofs.Laws.{conversions-fit}
 use Rattle.pieces.specs.declared.Conversion.{Conversion}
 use Rattle.pieces.specs.declared.Conversion.TheVariants.{Escape, Noesc, Unesc}
@@ -12,7 +11,7 @@ use Rattle.pieces.specs.Pieces.{piece, size, Within}
 use Rattle.pieces.proofs.Inside.{piece-within}
 use Rattle.text.specs.declared.Mode.{Mode}
 use Rattle.text.specs.declared.Mode.TheVariants.{Plain, Address}
-use Rattle.text.specs.Fill.{Lookup, as_usual, convert, referred, gives, fills, filled, or_here, breaks, broken_at}
+use Rattle.text.specs.Fill.{Lookup, convert, referred, gives, fills, or_here, breaks}
 use Rattle.text.specs.Laws.{dollarless, PlainStays, Part, byte, refer, replaced, ValuesUnread, Short, FilledMost, FillingKeeps}
 
 -- a text with no dollar sign

@@ -1,5 +1,5 @@
 -- A text, piece by piece. Assumes nothing.
-use Rattle.std.proofs.Common.{◌≡◌, ℕ, zero, suc, ◌+◌, ◌-◌, ◌*◌, ◌<◌, ◌≤◌, List, [], ◌∷◌, ◌++◌, length, take, drop, set, Some, None, Ok, Err, Option, Result, sym, refl, ap, ◌∙◌, subst, add-zero, arith, length-append, length-drop, drop-drop}
+use Rattle.std.proofs.Common.{◌≡◌, ℕ, zero, suc, ◌+◌, ◌-◌, ◌*◌, ◌<◌, ◌≤◌, [], ◌∷◌, ◌++◌, length, take, drop, set, None, Ok, Err, Option, sym, refl, ap, ◌∙◌, add-zero, arith, length-append, length-drop, drop-drop}
 use lib.Seq.{drop-nil, sets}
 use Rattle.std.proofs.lemmas.List.{drop_all, take_rest}
 use Rattle.convert.proofs.Writing.{Toward, push, push-all, has_room, has-room-all, begin, done}

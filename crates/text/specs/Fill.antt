@@ -1,5 +1,5 @@
 -- What a text becomes when variables are put into it. Assumes nothing.
-use Rattle.std.specs.Prelude.{ℕ, zero, suc, ◌+◌, ◌-◌, cond, List, [], ◌∷◌, ◌++◌, length, take, drop, Some, None, Option, nat_le}
+use Rattle.std.specs.Prelude.{ℕ, zero, suc, ◌+◌, ◌-◌, cond, [], ◌∷◌, ◌++◌, length, take, drop, Some, None, Option, nat_le}
 use Rattle.names.specs.Names.{Bytes}
 use Rattle.convert.specs.Escape.{escape}
 use Rattle.convert.specs.Unescape.{unescape}

@@ -1,5 +1,6 @@
 //! Texts: what a text becomes when variables are put into it, over any source of values.
 #![tactic(auto)]
+
 ghost use Rattle.std.specs.Prelude.{◌≡◌, ℕ, ◌+◌, ◌*◌, ◌<◌, ◌≤◌, length, Some, None};
 ghost use Rattle.std.proofs.lemmas.List.Edits.{sets};
 ghost use Rattle.text.specs.declared.Mode.TheVariants.{Plain};

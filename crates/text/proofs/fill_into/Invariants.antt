@@ -1,4 +1,4 @@
-use Rattle.std.proofs.Common.{◌+◌, ◌-◌, length}
+use Rattle.std.proofs.Common.{◌-◌, length}
 use lib.Seq.{sets}
 use Rattle.text.specs.Fill.{filled}
 use Rattle.text.proofs.Reading.{Filling}

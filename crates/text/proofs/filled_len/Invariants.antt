@@ -1,4 +1,4 @@
-use Rattle.std.proofs.Common.{◌-◌, ◌≤◌, length}
+use Rattle.std.proofs.Common.{◌-◌, length}
 use Rattle.text.proofs.Reading.{Counting}
 use Rattle.text.proofs.filled_len.Given as goal
 
