@@ -3,6 +3,7 @@
 //! A reference is of one of six kinds, told by how it begins. Two of them are refused; each other kind is joined to a front of the
 //! current address, and what comes out has to be a lawful address.
 #![tactic(auto)]
+
 ghost use Rattle.std.specs.Prelude.{◌≡◌, ◌≤◌, ◌++◌, length};
 ghost use Rattle.address.specs.Address.{scheme, host_of, path_of};
 ghost use Rattle.address.specs.Resolve.{kind_of, directory_of, resolve};

@@ -7,12 +7,12 @@ use Rattle.address.proofs.Parts.{deck-length, deck-within}
 use Rattle.resolve.proofs.Joining.{directory-front}
 use Rattle.resolve.proofs.directory.Goals as goal
 
-pub slice-bounds-result-end : goal.slice-bounds-result-end
-slice-bounds-result-end c =
+pub slice_bounds-result-end : goal.slice_bounds-result-end
+slice_bounds-result-end c =
     let a = address_of c.args.current.now in
     let h = ap length c.host.ensures in
     let p = ap length c.path.ensures in
-    let b = ap length c.as-bytes.ensures in
+    let b = ap length c.as_bytes.ensures in
     let k = deck-length a c.args.current.now.holds in
     let w = deck-within a in
     omega arith
@@ -21,7 +21,7 @@ pub returns : goal.returns
 returns c =
     let a = address_of c.args.current.now in
     let h = ap length c.host.ensures in
-    let d : c.directory-len.result ≡ length (directory_of (path_of a)) = c.directory-len.ensures.value ∙ ap (λ l. length (directory_of l)) c.path.ensures in
-    let n : ((7 + length c.host.result.now) + c.directory-len.result) - 0 ≡ (7 + length (host_of a)) + c.directory-len.result = omega arith in
-    ap (λ i. take i c.as-bytes.result.now) n ∙ ap (take ((7 + length (host_of a)) + c.directory-len.result)) c.as-bytes.ensures
-    ∙ directory-front a c.args.current.now.holds c.directory-len.result d
+    let d : c.directory_len.result ≡ length (directory_of (path_of a)) = c.directory_len.ensures.value ∙ ap (λ l. length (directory_of l)) c.path.ensures in
+    let n : ((7 + length c.host.result.now) + c.directory_len.result) - 0 ≡ (7 + length (host_of a)) + c.directory_len.result = omega arith in
+    ap (λ i. take i c.as_bytes.result.now) n ∙ ap (take ((7 + length (host_of a)) + c.directory_len.result)) c.as_bytes.ensures
+    ∙ directory-front a c.args.current.now.holds c.directory_len.result d

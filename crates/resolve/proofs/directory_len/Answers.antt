@@ -2,7 +2,7 @@
 use Rattle.std.proofs.Common.{◌+◌, drop, sym, ap, ◌∙◌, arith, rules}
 use Rattle.resolve.proofs.Reading.{ending, directory-query, directory-slash, directory-other, directory-all, directory-start}
 use Rattle.resolve.proofs.directory_len.Goals as goal
-use Rattle.resolve.proofs.directory_len.Goals.{in-47, in-default}
+use Rattle.resolve.proofs.directory_len.Goals.{in-47, in_default}
 
 pub loop-i-init : goal.loop-i-init
 loop-i-init c = (directory-start c.args.path.now, omega arith)
@@ -16,7 +16,7 @@ loop-i-preserved c =
       | in-47 w ↦
           let e = directory-slash c.loop-i.len c.args.path.now c.loop-i.i c.loop-i-test.true w.in-47.is in
           (ap (λ n. ending n (c.loop-i.i + 1) (drop (c.loop-i.i + 1) c.args.path.now)) w.len-is ∙ sym e ∙ c.loop-i.invariant.0, omega (arith, w.len-is))
-      | in-default w ↦
+      | in_default w ↦
           let e = directory-other c.loop-i.len c.args.path.now c.loop-i.i c.loop-i-test.true (search rules) (search rules) in
           (ap (λ n. ending n (c.loop-i.i + 1) (drop (c.loop-i.i + 1) c.args.path.now)) w.len-is ∙ sym e ∙ c.loop-i.invariant.0, omega (arith, w.len-is, c.loop-i.invariant.1))
     ]

@@ -10,4 +10,4 @@ returns c =
     let a = address_of c.args.current.now in
     let h = ap length c.host.ensures in
     let n : (7 + length c.host.result.now) - 0 ≡ 7 + length (host_of a) = omega arith in
-    ap (λ i. take i c.as-bytes.result.now) n ∙ ap (take (7 + length (host_of a))) c.as-bytes.ensures ∙ root-front a c.args.current.now.holds
+    ap (λ i. take i c.as_bytes.result.now) n ∙ ap (take (7 + length (host_of a))) c.as_bytes.ensures ∙ root-front a c.args.current.now.holds
