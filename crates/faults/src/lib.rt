@@ -2,6 +2,7 @@
 //! whole: a broken text tells its place, the task which text of which kind of task, and the call which call it was.
 //! Every other fault is told by its number alone.
 #![tactic(auto)]
+
 ghost use Rattle.std.specs.Prelude.{◌≡◌};
 ghost use Rattle.machine.specs.Answer.{reason_number};
 ghost use Rattle.faults.specs.Layers.{placed_in, in_task, in_call, in_answer, of_pair};

@@ -1,5 +1,5 @@
 -- The front of a row of entries, after each change. Assumes nothing.
-use Rattle.std.proofs.Common.{◌≡◌, ℕ, zero, suc, ◌+◌, ◌-◌, ◌<◌, ◌≤◌, List, [], ◌∷◌, ◌++◌, map, length, get_or, take, drop, set, Some, None, Option, sym, refl, ap, ◌∙◌, add-one, arith}
+use Rattle.std.proofs.Common.{◌≡◌, ℕ, zero, suc, ◌+◌, ◌-◌, ◌<◌, ◌≤◌, List, [], ◌∷◌, ◌++◌, map, length, get_or, take, drop, set, Some, None, sym, refl, ap, ◌∙◌, add-one, arith}
 use Rattle.std.proofs.lemmas.List.{length-drop, length-map, length-take-le, set-append_left, set_split, drop_all, take-take, take_all, take-map, drop-map, take-append-le, drop-take}
 use Rattle.names.specs.Names.{Bytes}
 use Rattle.machine.specs.Place.{newest, second}

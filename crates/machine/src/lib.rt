@@ -1,6 +1,7 @@
 //! The machine of the browser: its state, its calls and what each of them does, as definitions, and the
 //! laws over whole runs of calls, each proved on the contract of a function.
 #![tactic(auto)]
+
 ghost use Rattle.store.specs.Limits.{Limits};
 ghost use Rattle.machine.specs.State.{State};
 ghost use Rattle.machine.specs.Lives.{means};
