@@ -1,5 +1,6 @@
 //! The errand: none, out, or landed; and which calls it lets pass.
 #![tactic(auto)]
+
 ghost use Rattle.std.specs.Prelude.{◌≡◌, true, false, [], MatchResult};
 ghost use Rattle.address.specs.Address.{lawful};
 ghost use Rattle.machine.specs.declared.Way.TheVariants.{Forward};
