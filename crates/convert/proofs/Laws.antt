@@ -1,6 +1,6 @@
 -- Laws of escape and unescape. Assumes nothing.
 use Rattle.std.proofs.Common.{◌≡◌, ℕ, zero, suc, ◌+◌, ◌*◌, ◌/◌, ◌%◌, ◌<◌, ◌≤◌, Bool, true, false, ◌&&◌, eqb, List, [], ◌∷◌, length, get_or, drop, refl, ap, ◌∙◌, arith}
-use Rattle.std.specs.List.{AllByRecursion as All}
+use Rattle.std.specs.List.{AllByRecursion}
 use Rattle.std.proofs.lemmas.List.{drop_more}
 use Rattle.std.proofs.lemmas.Bool.{cond-true, cond-false, cond_both, and_left, and_parts, and_from, eq-eqb, eqb-true}
 use Rattle.std.proofs.lemmas.Bool.Decides.{nat_tests, Decides-below_and}
@@ -42,7 +42,7 @@ front b xs h =
     (λ _. let d = and_parts (coded 37 (upper_digit (b / 16)) (upper_digit (b % 16))) _ (digits_right_lem b h) in
     cond-true (coded 37 (upper_digit (b / 16)) (upper_digit (b % 16))) _ (37 ∷ unescape (upper_digit (b / 16) ∷ upper_digit (b % 16) ∷ xs)) d.0 ∙ ap (λ n. n ∷ unescape xs) (eqb-true _ _ d.1))
 
-comes_back : (v : Bytes) → All (λ b. b < 256) v → unescape (escape v) ≡ v
+comes_back : (v : Bytes) → AllByRecursion (λ b. b < 256) v → unescape (escape v) ≡ v
 comes_back [] h = refl
 comes_back (b ∷ v) h = front b (escape v) h.0 ∙ ap (λ l. b ∷ l) (comes_back v h.1)
 

@@ -1,6 +1,6 @@
 -- Unescaping: a percent sign and two hexadecimal digits become one byte again, and all else stays. Assumes nothing.
 use Rattle.std.specs.Prelude.{◌≡◌, ℕ, ◌+◌, ◌-◌, ◌*◌, ◌<◌, ◌≤◌, Bool, cond, ◌&&◌, ◌||◌, [], ◌∷◌, length, ◌==◌, nat_le}
-use Rattle.std.specs.List.{AllByRecursion as All}
+use Rattle.std.specs.List.{AllByRecursion}
 use Rattle.names.specs.Names.{Bytes, between, is_digit}
 use Rattle.convert.specs.Escape.{escape}
 
@@ -26,7 +26,7 @@ unescape (a ∷ b ∷ c ∷ rest) = cond (coded a b c) ((16 * hex_value b + hex_
 -- what the conversions promise of every byte string: an escaped one comes back, escaping at most trebles the
 -- length and never shortens, and unescaping never lengthens
 pub record ConversionsFit : Type 0 where
-  pub comes_back : (v : Bytes) → All (λ b. b < 256) v → unescape (escape v) ≡ v
+  pub comes_back : (v : Bytes) → AllByRecursion (λ b. b < 256) v → unescape (escape v) ≡ v
   pub escape-most : (v : Bytes) → length (escape v) ≤ 3 * length v
   pub escape_least : (v : Bytes) → length v ≤ length (escape v)
   pub unescape-most : (v : Bytes) → length (unescape v) ≤ length v

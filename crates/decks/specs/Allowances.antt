@@ -1,6 +1,6 @@
 -- What every shelf keeps to: how long and how many the parts of its decks may be. Assumes nothing.
 use Rattle.std.specs.Prelude.{◌≡◌, ℕ, ◌<◌, ◌≤◌, true, ◌≢◌, List, [], ◌∷◌, map, length, IfSome, Option}
-use Rattle.std.specs.List.{AllByRecursion as All}
+use Rattle.std.specs.List.{AllByRecursion}
 use Rattle.address.specs.Address.{is_deck_address}
 use Rattle.decks.specs.Model.{Assignment, Task, Binding, Card, Deck}
 
@@ -17,7 +17,7 @@ pub record AssignmentAllowed (a : Assignment) : Type 0 where
 pub record TaskAllowed (t : Task) : Type 0 where
   pub address : ShortText t.address
   pub few : length t.assignments ≤ 16
-  pub assignments : All AssignmentAllowed t.assignments
+  pub assignments : AllByRecursion AssignmentAllowed t.assignments
 
 -- a binding's name has 1 to 32 bytes
 pub record BindingAllowed (b : Binding) : Type 0 where
@@ -33,7 +33,7 @@ PerhapsAllowed o = IfSome o TaskAllowed
 -- at most 255 bindings
 pub record BindingsAllowed (bs : List Binding) : Type 0 where
   pub few : length bs ≤ 255
-  pub each : All BindingAllowed bs
+  pub each : AllByRecursion BindingAllowed bs
 
 -- a card's id has at most 32 bytes
 pub record CardAllowed (c : Card) : Type 0 where
@@ -48,7 +48,7 @@ pub record DeckAllowed (d : Deck) : Type 0 where
   pub address : is_deck_address d.address ≡ true
   pub some : 0 < length d.cards
   pub few : length d.cards ≤ 255
-  pub cards : All CardAllowed d.cards
+  pub cards : AllByRecursion CardAllowed d.cards
   pub forward : PerhapsAllowed d.forward
   pub backward : PerhapsAllowed d.backward
   pub bindings : BindingsAllowed d.bindings
@@ -56,10 +56,10 @@ pub record DeckAllowed (d : Deck) : Type 0 where
 -- none stands twice
 abbrev pub Apart : List (List ℕ) → Type 0
 Apart [] = Unit {0}
-Apart (a ∷ more) = All (λ b. a ≢ b) more × Apart more
+Apart (a ∷ more) = AllByRecursion (λ b. a ≢ b) more × Apart more
 
 -- the decks of a shelf: fewer than 65,536, each within its allowances, with different addresses
 pub record Allowed (ds : List Deck) : Type 0 where
   pub few : length ds < 65536
-  pub each : All DeckAllowed ds
+  pub each : AllByRecursion DeckAllowed ds
   pub apart : Apart (map (λ d. d.address) ds)

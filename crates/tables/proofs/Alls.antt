@@ -1,6 +1,6 @@
 -- Every one of a list passes a test. Assumes nothing.
 use Rattle.std.proofs.Common.{◌≡◌, ℕ, zero, suc, ◌+◌, ◌<◌, ◌≤◌, Bool, true, false, ◌&&◌, List, [], ◌∷◌, map, length, get_or, drop, ap, ◌∙◌, arith}
-use Rattle.std.specs.List.{range_with_len, AllByRecursion as All}
+use Rattle.std.specs.List.{range_with_len, AllByRecursion}
 use Rattle.std.proofs.lemmas.List.{at_drop_more, at_drop_all}
 use Rattle.std.proofs.lemmas.Bool.{and_parts, and_left}
 use Rattle.tables.specs.Verdict.{all}
@@ -22,6 +22,6 @@ all-at p (x ∷ xs) zero d e h = (and_parts (p x) (all p xs) e).0
 all-at p (x ∷ xs) (suc k) d e h = all-at p xs k d (and_parts (p x) (all p xs) e).1 (omega arith)
 
 -- what holds of each number of a run holds of what the run means
-pub all-run : {X : Type 0} (P : X → Type 0) (f : ℕ → X) (a n : ℕ) → ((k : ℕ) → a ≤ k → k < a + n → P (f k)) → All P (map f (range_with_len a n))
+pub all-run : {X : Type 0} (P : X → Type 0) (f : ℕ → X) (a n : ℕ) → ((k : ℕ) → a ≤ k → k < a + n → P (f k)) → AllByRecursion P (map f (range_with_len a n))
 all-run P f a zero h = tt
 all-run P f a (suc n) h = (h a (omega arith) (omega arith), all-run P f (a + 1) n (λ k l u. h k (omega arith) (omega arith)))

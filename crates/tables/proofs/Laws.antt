@@ -1,6 +1,6 @@
 -- What the decks of accepted tables keep to. Assumes nothing.
 use Rattle.std.proofs.Common.{◌≡◌, ℕ, zero, suc, ◌+◌, ◌-◌, ◌<◌, ◌≤◌, min, Bool, true, false, cond, not, ◌&&◌, ◌||◌, eqb, ltb, leb, ◌≢◌, List, [], ◌∷◌, map, length, get_or, take, drop, IfSome, Some, None, Option, sym, refl, ap, ◌∙◌, subst, ⊎_elim, arith, rules}
-use Rattle.std.specs.List.{range_with_len, slice_get, AllByRecursion as All}
+use Rattle.std.specs.List.{range_with_len, slice_get, AllByRecursion}
 use Rattle.std.specs.Str.{bytes_eq}
 use Rattle.std.proofs.lemmas.List.{length-take, length-drop, length-map, get_or-map, ext_get_or}
 use Rattle.std.proofs.lemmas.List.FromFn.{length-range_with_len, length-map-range_with_len, get_or-map-range_with_len}
@@ -57,7 +57,7 @@ run_length : {X : Type 0} (f : ℕ → X) (r : Run) → length (run f r) ≡ r.c
 run_length f r = length-map-range_with_len f r.first r.count
 
 -- a run within its table keeps what every record there keeps
-run-kept : {X : Type 0} (P : X → Type 0) (f : ℕ → X) (r : Run) (n : ℕ) → run_ok r n ≡ true → ((k : ℕ) → k < n → P (f k)) → All P (run f r)
+run-kept : {X : Type 0} (P : X → Type 0) (f : ℕ → X) (r : Run) (n : ℕ) → run_ok r n ≡ true → ((k : ℕ) → k < n → P (f k)) → AllByRecursion P (run f r)
 run-kept P f r n e h =
     let u = leb-true (r.first + r.count) n (and_parts (leb r.count 255) _ e).1 in
     all-run P f r.first r.count (λ k l m. h k (omega arith))
@@ -170,7 +170,7 @@ lawful-at [] k e h = absurd (omega arith)
 lawful-at (a ∷ more) zero e h = (and_parts (is_deck_address a) _ e).0
 lawful-at (a ∷ more) (suc k) e h = lawful-at more k (and_parts (not (among more a)) _ (and_parts (is_deck_address a) _ e).1).1 (omega arith)
 
-missing : (a : List ℕ) (more : List (List ℕ)) → among more a ≡ false → All (λ b. a ≢ b) more
+missing : (a : List ℕ) (more : List (List ℕ)) → among more a ≡ false → AllByRecursion (λ b. a ≢ b) more
 missing a [] e = tt
 missing a (b ∷ more) e =
     let q = or_parts (bytes_eq b a) (among more a) e in

@@ -1,6 +1,6 @@
 -- All assignments of a task, filled one after another. Assumes nothing.
 use Rattle.std.proofs.Common.{◌≡◌, ℕ, zero, suc, ◌+◌, ◌-◌, ◌<◌, ◌≤◌, Bool, true, false, cond, List, [], ◌∷◌, map, length, Some, None, Option, sym, refl, ap, ◌∙◌, subst, add-one, arith}
-use Rattle.std.specs.List.{range_with_len, AllByRecursion as All}
+use Rattle.std.specs.List.{range_with_len, AllByRecursion}
 use Rattle.std.proofs.lemmas.List.FromFn.{length-map-range_with_len}
 use Rattle.names.specs.Names.{Bytes, is_name}
 use Rattle.store.specs.Vars.{Vars, size}
@@ -35,7 +35,7 @@ pub rest-none : (f : ℕ → Assignment) (r : Run) (k : ℕ) → r.count ≤ k �
 rest-none f r k h = let q : r.count - k ≡ 0 = omega arith in ap (λ z. map f (range_with_len (r.first + k) z)) q
 
 -- each is allowed where all are
-pub allowed_at : (f : ℕ → Assignment) (r : Run) (k : ℕ) → All AssignmentAllowed (run f r) → k < r.count → AssignmentAllowed (f (r.first + k))
+pub allowed_at : (f : ℕ → Assignment) (r : Run) (k : ℕ) → AllByRecursion AssignmentAllowed (run f r) → k < r.count → AssignmentAllowed (f (r.first + k))
 allowed_at f r k h l = nth-kept AssignmentAllowed (run f r) k (f (r.first + k)) h (sym (nth_only f r.first r.count k l))
 
 pub counted : (f : ℕ → Assignment) (r : Run) → length (run f r) ≡ r.count

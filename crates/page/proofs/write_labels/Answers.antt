@@ -1,5 +1,5 @@
 use Rattle.std.proofs.Common.{subst, arith}
-use Rattle.std.specs.List.{AllByRecursion as All}
+use Rattle.std.specs.List.{AllByRecursion}
 use Rattle.decks.specs.Allowances.{BindingAllowed}
 use Rattle.decks.specs.Model.{active_from, active, offers}
 use Rattle.decks.specs.Views.{deck_of, card_of, binding_of}
@@ -36,7 +36,7 @@ loop-walked-preserved-in-Stands g c =
     let step = c.in-Some.ensures.walks in
     let e = c.in-Stands.ensures in (
       added vs (active_from all c.loop-walked.i) b (active_from all c.in-Some.walked.next) c.loop-walked.buf c.write-label.new.buf c.loop-walked.len c.write-label.new.len c.loop-walked.labels _ _ step.more c.loop-walked.invariant.0 e.outcome e.within (omega (arith, c.write-label.auto.buf)) e.page,
-      (subst (All BindingAllowed) step.more c.loop-walked.invariant.1).1,
+      (subst (AllByRecursion BindingAllowed) step.more c.loop-walked.invariant.1).1,
       omega (arith, step.later, c.loop-walked.invariant.2),
     )
 
@@ -50,6 +50,6 @@ loop-walked-preserved g c =
     let step = c.in-Some.ensures.walks in
     let e = c.in-LeftOut.ensures in (
       passed vs (active_from all c.loop-walked.i) b (active_from all c.in-Some.walked.next) c.loop-walked.buf c.write-label.new.buf c.loop-walked.len c.write-label.new.len c.loop-walked.labels _ _ step.more c.loop-walked.invariant.0 e.outcome e.within (omega (arith, c.write-label.auto.buf)) e.page,
-      (subst (All BindingAllowed) step.more c.loop-walked.invariant.1).1,
+      (subst (AllByRecursion BindingAllowed) step.more c.loop-walked.invariant.1).1,
       omega (arith, step.later, c.loop-walked.invariant.2),
     )

@@ -1,5 +1,5 @@
 use Rattle.std.proofs.Common.{◌-◌, ◌≤◌, ◌++◌, length, take}
-use Rattle.std.specs.List.{AllByRecursion as All}
+use Rattle.std.specs.List.{AllByRecursion}
 use Rattle.decks.specs.Allowances.{BindingAllowed}
 use Rattle.decks.specs.Model.{active_from, active, offers}
 use Rattle.decks.specs.Views.{deck_of, card_of}
@@ -16,7 +16,7 @@ invariant-loop-walked g l =
     let rest = active_from (offers d k) l.i in
     let lines = fitting (length l.initial.buf - l.initial.len) (lines_of vs (active d k)) in
     Going vs rest l.buf l.len l.labels (take l.initial.len l.initial.buf ++ together lines) (length lines)
-    × All BindingAllowed rest
+    × AllByRecursion BindingAllowed rest
     × (l.labels ≤ l.i)
 
 abbrev pub decreases-loop-walked : goal.decreases-loop-walked
