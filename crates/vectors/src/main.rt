@@ -3,6 +3,7 @@
 //! A row of the RFC without dot segments, authority or scheme has to come out as there. A row with dot segments keeps its dots here,
 //! and a row with an authority or a scheme is refused. Any other outcome is counted as unexpected.
 #![tactic(auto)]
+
 mod edges;
 mod meaning;
 mod rfc;
