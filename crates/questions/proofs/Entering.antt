@@ -3,7 +3,7 @@ use Rattle.std.proofs.Common.{◌≡◌, ℕ, Bool, true, false, List, [], ◌�
 use Rattle.decks.specs.declared.Kind.TheVariants.{Noop}
 use Rattle.decks.specs.declared.DeckView.{DeckView}
 use Rattle.decks.specs.declared.CardView.{CardView}
-use Rattle.decks.specs.Model.{Assignment, Task, Binding, Card, else-other, enter_of}
+use Rattle.decks.specs.Model.{Task, else-other, enter_of}
 use Rattle.decks.specs.Views.{Numbered, opt, deck_of, card_of}
 use Rattle.questions.specs.Handed.{enter_number}
 

@@ -1,6 +1,7 @@
 //! A walker's questions, put to any shelf: which deck an address finds, which card its fragment
 //! means, the tasks of entering that card, and the active binding of a name.
 #![tactic(auto)]
+
 ghost use Rattle.std.specs.Prelude.{◌≡◌, IfSome, Some};
 ghost use Rattle.decks.specs.Views.{opt, deck_of, card_of, task_of};
 ghost use Rattle.decks.specs.Handed.{DeckLies, CardLies, TaskLies, DeckPlaced, CardPlaced, TaskPlaced};

@@ -1,4 +1,4 @@
-use Rattle.std.proofs.Common.{◌≡◌, true, false, ap, ◌∙◌, rules}
+use Rattle.std.proofs.Common.{true, false, ap, ◌∙◌, rules}
 use Rattle.decks.specs.Views.{opt}
 use Rattle.questions.proofs.Entering.{entered}
 use Rattle.questions.proofs.ask_card.Goals as goal
@@ -10,14 +10,14 @@ returns g c =
     let k = c.args.card in
     record {
       found = search rules;
-      lies = λ l m. record { deck = l; card = m; forward = c.task-if.ensures.lies; backward = c.task-if-2.ensures.lies; binding = c.find-binding.ensures.lies };
+      lies = λ l m. record { deck = l; card = m; forward = c.task_if.ensures.lies; backward = c.task_if-2.ensures.lies; binding = c.find_binding.ensures.lies };
       placed = λ l m. record {
         deck = l;
         below = record {
           card = m;
-          forward = c.task-if.ensures.placed ∙ ap (opt w.tasks) (entered d k true c.enter-task.result c.enter-task.ensures);
-          backward = c.task-if-2.ensures.placed ∙ ap (opt w.tasks) (entered d k false c.enter-task-2.result c.enter-task-2.ensures);
-          binding = c.find-binding.ensures.placed;
+          forward = c.task_if.ensures.placed ∙ ap (opt w.tasks) (entered d k true c.enter_task.result c.enter_task.ensures);
+          backward = c.task_if-2.ensures.placed ∙ ap (opt w.tasks) (entered d k false c.enter_task-2.result c.enter_task-2.ensures);
+          binding = c.find_binding.ensures.placed;
         };
       };
     }
