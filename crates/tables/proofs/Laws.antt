@@ -1,24 +1,24 @@
 -- What the decks of accepted tables keep to. Assumes nothing.
-use Rattle.std.proofs.Common.{◌≡◌, ℕ, zero, suc, ◌+◌, ◌-◌, ◌<◌, ◌≤◌, min, Bool, true, false, cond, not, ◌&&◌, ◌||◌, eqb, ltb, leb, ◌≢◌, List, [], ◌∷◌, map, length, get_or, take, drop, IfSome, Some, None, Option, sym, refl, ap, ◌∙◌, subst, ⊎_elim, arith, rules}
-use Rattle.std.specs.List.{range_with_len, slice_get, AllByRecursion}
+use Rattle.std.proofs.Common.{◌≡◌, ℕ, zero, suc, ◌+◌, ◌<◌, ◌≤◌, Bool, true, false, cond, not, ◌||◌, eqb, ltb, leb, ◌≢◌, List, [], ◌∷◌, map, length, get_or, take, drop, Some, None, Option, sym, refl, ap, ◌∙◌, subst, arith}
+use Rattle.std.specs.List.{AllByRecursion}
 use Rattle.std.specs.Str.{bytes_eq}
 use Rattle.std.proofs.lemmas.List.{length-take, length-drop, length-map, get_or-map, ext_get_or}
 use Rattle.std.proofs.lemmas.List.FromFn.{length-range_with_len, length-map-range_with_len, get_or-map-range_with_len}
 use Rattle.std.proofs.lemmas.Slice.Eq.{bytes_eq-Decides}
-use Rattle.std.proofs.lemmas.Bool.{and_parts, or_parts, leb-true, ltb-true, eqb-true, cond-true, cond-false, cases_Bool, not-true, both_ways}
+use Rattle.std.proofs.lemmas.Bool.{and_parts, or_parts, leb-true, ltb-true, cond-true, not-true, both_ways}
 use Rattle.address.specs.Address.{is_deck_address}
 use Rattle.decks.specs.declared.Run.{Run}
-use Rattle.decks.specs.Model.{Assignment, Task, Binding, Card, Deck}
+use Rattle.decks.specs.Model.{Deck}
 use Rattle.decks.specs.Views.{opt, run}
 use Rattle.decks.specs.Allowances.{ShortText, AssignmentAllowed, TaskAllowed, BindingAllowed, BindingsAllowed, PerhapsAllowed, CardAllowed, DeckAllowed, Apart, Allowed}
 use Rattle.tables.specs.declared.Ref.{Ref}
 use Rattle.tables.specs.declared.DeckRecord.{DeckRecord}
 use Rattle.tables.specs.declared.Cause.{Cause}
 use Rattle.tables.specs.declared.Cause.TheVariants.{Record, Address}
-use Rattle.tables.specs.declared.Table.TheVariants.{Decks, Cards, Bindings, Tasks, Assignments}
+use Rattle.tables.specs.declared.Table.TheVariants.{Decks, Cards, Bindings, Tasks}
 use Rattle.tables.specs.Records.{Tabled, counts_of, no_deck, no_card, no_binding, no_task, no_assignment}
 use Rattle.tables.specs.Tests.{ref_ok, text_ok, run_ok, perhaps_task_ok, deck_ok, card_ok, binding_ok, task_ok, assignment_ok, counts_ok}
-use Rattle.tables.specs.Meaning.{text_of, kind_of, perhaps, assignment_no, task_no, binding_no, card_no, deck_no, listed}
+use Rattle.tables.specs.Meaning.{text_of, perhaps, assignment_no, task_no, binding_no, card_no, deck_no, listed}
 use Rattle.tables.specs.Verdict.{all, table_ok, sound, addresses, among, addressed, judgement, unless, under}
 use Rattle.tables.proofs.Alls.{all-at, all-run}
 

@@ -1,5 +1,5 @@
 -- What the numbers of tables mean, and the decks that they list. Assumes nothing.
-use Rattle.std.specs.Prelude.{ℕ, ◌+◌, Bool, cond, List, [], map, length, take, drop, Some, None, Option, ◌==◌, nat_le, slice_index_or}
+use Rattle.std.specs.Prelude.{ℕ, ◌+◌, cond, List, [], map, length, take, drop, Some, None, Option, ◌==◌, nat_le, slice_index_or}
 use Rattle.std.specs.List.{range_with_len}
 use Rattle.decks.specs.declared.Kind.{Kind}
 use Rattle.decks.specs.declared.Kind.TheVariants.{Noop, Go, Prev, Refresh}

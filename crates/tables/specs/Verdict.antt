@@ -9,7 +9,7 @@ use Rattle.tables.specs.declared.Table.{Table}
 use Rattle.tables.specs.declared.Table.TheVariants.{Decks, Cards, Bindings, Tasks, Assignments}
 use Rattle.tables.specs.Records.{Tabled, counts_of, no_deck, no_card, no_binding, no_task, no_assignment}
 use Rattle.tables.specs.Tests.{deck_ok, card_ok, binding_ok, task_ok, assignment_ok, counts_ok}
-use Rattle.tables.specs.Meaning.{text_of, listed}
+use Rattle.tables.specs.Meaning.{text_of}
 
 -- the number of each cause
 abbrev pub cause_number : Cause → ℕ

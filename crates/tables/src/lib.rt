@@ -1,6 +1,7 @@
 //! Five tables of records and a pool of text, wherever they lie: the records, when one keeps its
 //! allowances, and what a record's fields mean.
 #![tactic(auto)]
+
 ghost use Rattle.std.specs.Prelude.{◌≡◌, ℕ, ◌+◌, ◌-◌, ◌<◌, ◌≤◌, List, length, take, slice_index_or};
 ghost use Rattle.tables.specs.Records.{Tabled, counts_of, no_deck, no_card, no_binding, no_task, no_assignment};
 ghost use Rattle.tables.specs.Tests.{ref_ok, text_ok, run_ok, perhaps_task_ok, deck_ok, card_ok, binding_ok, task_ok, assignment_ok, counts_ok};
