@@ -1,9 +1,9 @@
 -- What holds of all that is read, and what is read after a pair was set. Assumes nothing.
-use Rattle.std.proofs.Common.{◌≡◌, ℕ, zero, suc, ◌+◌, ◌-◌, ◌*◌, ◌<◌, ◌≤◌, min, Bool, true, false, cond, not, ◌&&◌, eqb, leb, ◌⊎◌, List, [], ◌∷◌, ◌++◌, length, get_or, take, drop, sym, refl, ap, ◌∙◌, inl, inr, ⊎_elim, arith, length-append, length-drop, length-take}
+use Rattle.std.proofs.Common.{◌≡◌, ℕ, zero, suc, ◌+◌, ◌-◌, ◌*◌, ◌<◌, ◌≤◌, min, true, not, ◌&&◌, eqb, leb, [], ◌∷◌, ◌++◌, length, get_or, take, drop, sym, refl, ap, ◌∙◌, ⊎_elim, arith, length-append, length-drop, length-take}
 use Rattle.std.proofs.lemmas.Bool.Decides.{nat_tests}
 use Rattle.std.proofs.lemmas.Bool.{and_parts, and_from, cases_Bool, leb-true}
 use Rattle.std.proofs.lemmas.List.{take-append-drop, append_assoc, take_at, take-append-le, drop-append-le, get_or-drop}
-use Rattle.names.specs.Names.{Bytes, storable, is_name}
+use Rattle.names.specs.Names.{Bytes, storable}
 use Rattle.store.specs.Order.{before}
 use Rattle.store.specs.Vars.{Vars, assign, look, weight, size, sorted, above, sound}
 use Rattle.store.specs.Limits.{one, load, within}

@@ -1,10 +1,10 @@
 -- Moving a part of a run, and writing an entry into it. Assumes nothing.
-use Rattle.std.proofs.Common.{◌≡◌, ℕ, zero, suc, ◌+◌, ◌-◌, ◌*◌, ◌<◌, ◌≤◌, min, Bool, true, false, cond, not, ◌&&◌, ◌⊎◌, List, [], ◌∷◌, ◌++◌, length, get_or, take, drop, set, sym, refl, ap, ◌∙◌, inl, inr, ⊎_elim, arith, length-append, length-drop, length-set, length-take}
+use Rattle.std.proofs.Common.{◌≡◌, ℕ, ◌+◌, ◌≤◌, [], ◌∷◌, ◌++◌, length, take, drop, set, sym, ap, ◌∙◌, arith, length-append, length-drop, length-set, length-take}
 use lib.Seq.{paste}
 use borrow.Rule.Slice.PartMut.{put_mid}
 use Rattle.std.proofs.lemmas.Slice.{take-put_mid, drop-put_mid}
-use Rattle.std.proofs.lemmas.List.Edits.{take-paste, length-paste}
-use Rattle.std.proofs.lemmas.List.{take-append-drop, take-take, take-append-le, drop-take, append_assoc, take_at, drop_at, length-take-le, take-set-le, drop-set-lt, take_more_set, get_or-set_same, get_or_past}
+use Rattle.std.proofs.lemmas.List.Edits.{take-paste}
+use Rattle.std.proofs.lemmas.List.{take-take, take-append-le, drop-take, append_assoc, drop_at, length-take-le, take-set-le, drop-set-lt, take_more_set}
 use Rattle.names.specs.Names.{Bytes}
 
 -- after a part was moved to follow `to` bytes

@@ -1,15 +1,15 @@
 -- The bytes that some variables are written as, and what setting a pair does to them. Assumes nothing.
-use Rattle.std.proofs.Common.{◌≡◌, ℕ, zero, suc, ◌+◌, ◌-◌, ◌*◌, ◌<◌, ◌≤◌, min, Bool, true, false, cond, not, ◌&&◌, eqb, leb, ◌⊎◌, List, [], ◌∷◌, ◌++◌, length, get_or, take, drop, sym, refl, ap, ◌∙◌, inl, inr, ⊎_elim, arith, length-append, length-drop, length-take}
+use Rattle.std.proofs.Common.{◌≡◌, ℕ, zero, suc, ◌+◌, ◌-◌, ◌*◌, ◌<◌, ◌≤◌, true, false, not, ◌&&◌, eqb, [], ◌∷◌, ◌++◌, length, get_or, take, drop, sym, refl, ap, ◌∙◌, ⊎_elim, arith, length-append}
 use Rattle.std.specs.Str.{bytes_eq}
 use Rattle.std.proofs.lemmas.Bool.Decides.{nat_tests}
 use Rattle.std.proofs.lemmas.Bool.{and_parts, and_from, cases_Bool, le-leb}
 use Rattle.std.proofs.lemmas.List.{take-append-drop, take-take, drop-take, drop-drop, append_assoc, take_at, drop_at}
 use Rattle.names.specs.Names.{Bytes, storable}
 use Rattle.store.specs.Order.{before}
-use Rattle.store.specs.Vars.{Vars, without, insert, keep, assign, look, weight, size, sorted, above, sound}
+use Rattle.store.specs.Vars.{Vars, without, keep, assign, look, weight, size, sorted, above, sound}
 use Rattle.store.proofs.Order.{same_sym, same-is, before_irr, before_asym, before-not_same, before-total}
 use Rattle.store.proofs.Assigns.{above_trans, above-lacks, insert-above, without-lacking}
-use Rattle.runs.specs.Entry.{name_in, value_in, counts, ahead, cost}
+use Rattle.runs.specs.Entry.{name_in, value_in, counts, cost}
 use Rattle.runs.specs.Run.{parse}
 use Rattle.runs.specs.Spot.{place, held}
 use Rattle.runs.proofs.Reading.{parse-more, parse-none, lengths, name-length, value-length}

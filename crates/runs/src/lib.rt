@@ -4,6 +4,7 @@
 //! to the first entry that does not count, so any bytes at all mean some variables. A value length of 0
 //! ends a run.
 #![tactic(auto)]
+
 ghost use Rattle.std.specs.Prelude.{◌≡◌, ℕ, ◌+◌, ◌-◌, ◌<◌, ◌≤◌, true, [], ◌∷◌, ◌++◌, length, take, drop, if◌then◌else◌, slice_index};
 ghost use Rattle.names.specs.Names.{storable};
 ghost use Rattle.store.specs.Vars.{look, assign};

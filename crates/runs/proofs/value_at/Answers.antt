@@ -1,10 +1,10 @@
-use Rattle.std.proofs.Common.{◌≡◌, ℕ, ◌+◌, ◌-◌, ◌*◌, ◌<◌, ◌≤◌, [], length, take, drop, sym, refl, ap, ◌∙◌, arith}
+use Rattle.std.proofs.Common.{◌≡◌, ℕ, ◌+◌, ◌-◌, ◌≤◌, [], length, take, drop, sym, ap, ◌∙◌, arith}
 use Rattle.names.specs.Names.{Bytes}
 use Rattle.store.specs.Vars.{look}
 use Rattle.runs.specs.Run.{reads, room_of}
 use Rattle.runs.specs.Spot.{place, held}
 use Rattle.runs.proofs.Laws.{bounded, fine-reads}
-use Rattle.runs.proofs.Writing.{valued, unheld, whole, span, encode}
+use Rattle.runs.proofs.Writing.{valued, unheld, whole, span}
 use Rattle.runs.proofs.value_at.Goals as goal
 
 found : (xs n : Bytes) (pl he : ℕ) → pl ≡ place (reads xs) n → he ≡ held (reads xs) n → (he ≡ 0 → ⊥) → (2 + length n ≤ he) × (take (he - (2 + length n)) (drop (pl + (2 + length n)) xs) ≡ look (reads xs) n)
@@ -16,28 +16,28 @@ found xs n pl he ep eh z =
 pub returns-then-spot-eq0 : goal.returns-then-spot-eq0
 returns-then-spot-eq0 c = sym (unheld (reads c.args.run.now) c.args.name.now (sym c.find-spot.ensures.held ∙ c.if-spot-eq0.true))
 
-pub overflow-add-start-2 : goal.overflow-add-start-2
-overflow-add-start-2 c =
+pub overflow_add-start-2 : goal.overflow_add-start-2
+overflow_add-start-2 c =
     let f = c.find-spot.ensures in
     let b = bounded c.args.run.now c.args.name.now c.find-spot.result f in
     let v = found c.args.run.now c.args.name.now _ _ f.place f.held c.if-spot-eq0.false in
     omega (arith, b.order, b.few, b.light, v.0)
 
-pub overflow-sub-result : goal.overflow-sub-result
-overflow-sub-result c =
+pub overflow_sub-result : goal.overflow_sub-result
+overflow_sub-result c =
     let f = c.find-spot.ensures in
     let v = found c.args.run.now c.args.name.now _ _ f.place f.held c.if-spot-eq0.false in
     omega (arith, v.0)
 
-pub overflow-add-result-2 : goal.overflow-add-result-2
-overflow-add-result-2 c =
+pub overflow_add-result-2 : goal.overflow_add-result-2
+overflow_add-result-2 c =
     let f = c.find-spot.ensures in
     let b = bounded c.args.run.now c.args.name.now c.find-spot.result f in
     let v = found c.args.run.now c.args.name.now _ _ f.place f.held c.if-spot-eq0.false in
     omega (arith, b.order, b.few, b.light, v.0)
 
-pub slice-bounds-result-end-2 : goal.slice-bounds-result-end-2
-slice-bounds-result-end-2 c =
+pub slice_bounds-result-end-2 : goal.slice_bounds-result-end-2
+slice_bounds-result-end-2 c =
     let f = c.find-spot.ensures in
     let b = bounded c.args.run.now c.args.name.now c.find-spot.result f in
     let v = found c.args.run.now c.args.name.now _ _ f.place f.held c.if-spot-eq0.false in
