@@ -1,5 +1,6 @@
 //! The packed run as a store: 32 names, and all but 64 of the bytes that it is lent.
 #![tactic(auto)]
+
 ghost use Rattle.std.specs.Prelude.{◌≡◌, take};
 ghost use Rattle.runs.specs.Run.{reads, limits_of};
 ghost use Rattle.runs.specs.Spot.{Found};

@@ -1,18 +1,17 @@
 -- What the slots of a table mean: where a pair is written, unset and found. Assumes nothing.
-use Rattle.std.proofs.Common.{◌≡◌, ℕ, zero, suc, ◌+◌, ◌*◌, ◌<◌, ◌≤◌, min, Bool, true, false, cond, not, ◌&&◌, eqb, List, [], ◌∷◌, ◌++◌, map, length, get_or, take, drop, set, is_some, Some, None, Option, sym, refl, ap, ◌∙◌, arith, drop-cons}
+use Rattle.std.proofs.Common.{◌≡◌, ℕ, zero, suc, ◌+◌, ◌*◌, ◌<◌, ◌≤◌, min, Bool, true, false, cond, not, ◌&&◌, List, [], ◌∷◌, ◌++◌, map, length, get_or, take, drop, set, is_some, Some, None, Option, sym, refl, ap, ◌∙◌, arith, drop-cons}
 use Rattle.std.specs.Str.{bytes_eq}
 use Rattle.std.proofs.lemmas.List.{length-take, take-append-drop, set_split, take_more, append-nil}
 use Rattle.std.proofs.lemmas.Bool.{both_ways, and_parts, and_from, and_left, and_right, not-true, not-false, cond-true, cond-false, true≢false}
 use Rattle.names.specs.Names.{Bytes, storable}
 use Rattle.store.specs.Vars.{Vars, lacks, without, assign, look, size, weight, sorted, sound}
-use Rattle.store.proofs.Order.{same_refl, same_sym, same-is}
+use Rattle.store.proofs.Order.{same_refl, same-is}
 use Rattle.store.proofs.Assigns.{is_nil, branch, filled-look, size-assign, weight-assign, look-assign, sorted-assign, sound-assign, size-without_le, without-lacking}
 use Rattle.store.proofs.Commute.{without-assign_same, without-assign-other, assign_again, assign_comm, lacks-assign, weight-bound}
 use Rattle.slot_rows.specs.declared.Slot.{Slot}
 use Rattle.slot_rows.specs.Slots.{name_of, value_of, full, holds_name, freed, empty_slot}
 use Rattle.slot_rows.specs.Rows.{reads, absent, counts}
 use Rattle.slot_rows.specs.Places.{no_slot, First, Finds, Vacates, Spare, Spares, Serves, Crowded, Places}
-use Rattle.slot_rows.specs.Table.{changed}
 
 -- every row of slots means variables in order, each of which can be stored
 

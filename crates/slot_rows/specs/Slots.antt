@@ -1,5 +1,5 @@
 -- One slot of a table: a name and a value, each with its length. Assumes nothing.
-use Rattle.std.specs.Prelude.{ℕ, ◌-◌, min, Bool, cond, not, ◌&&◌, List, [], ◌++◌, length, take, replicate, Some, None, Option, ◌==◌}
+use Rattle.std.specs.Prelude.{ℕ, ◌-◌, min, Bool, cond, not, ◌&&◌, [], ◌++◌, length, take, replicate, Some, None, Option, ◌==◌}
 use Rattle.std.specs.Str.{bytes_eq}
 use Rattle.names.specs.Names.{Bytes, storable}
 use Rattle.slot_rows.specs.declared.Slot.{Slot}

@@ -1,5 +1,6 @@
 //! The slots of a table, each with a name and a value, and what a row of them means.
 #![tactic(auto)]
+
 ghost use Rattle.std.specs.Prelude.{◌≡◌, ◌<◌, ◌≤◌, min, length, take, slice_index_or};
 ghost use Rattle.store.specs.Vars.{size, weight};
 ghost use Rattle.slot_rows.specs.Rows.{reads, counts};

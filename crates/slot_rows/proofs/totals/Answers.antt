@@ -1,21 +1,20 @@
-use Rattle.std.proofs.Common.{◌≡◌, ℕ, ◌*◌, ◌≤◌, length, get_or, take, sym, ap, ◌∙◌, arith, length-take}
+use Rattle.std.proofs.Common.{length, get_or, take, sym, ap, ◌∙◌, arith, length-take}
 use Rattle.std.proofs.lemmas.List.{take_all}
 use Rattle.store.specs.Vars.{size, weight}
-use Rattle.slot_rows.specs.Slots.{name_of, value_of}
 use Rattle.slot_rows.specs.Rows.{reads}
 use Rattle.slot_rows.specs.Places.{no_slot}
 use Rattle.slot_rows.proofs.Rows.{counted, reads_no-more, size-reads, weight-reads, name-short, value-short}
 use Rattle.slot_rows.proofs.totals.Goals as goal
-use Rattle.slot_rows.proofs.totals.Goals.{then-counts-at, else-counts-at}
+use Rattle.slot_rows.proofs.totals.Goals.{then-counts_at, else-counts_at}
 
-pub overflow-add-names : goal.overflow-add-names
-overflow-add-names c =
+pub overflow_add-names : goal.overflow_add-names
+overflow_add-names c =
     let n = size-reads (take c.loop-i.i c.used-table.result.now) in
     let t = length-take c.loop-i.i c.used-table.result.now in
     omega (arith, c.loop-i.invariant.0, c.used-table.ensures.few)
 
-pub overflow-add-bytes-then-counts-at : goal.overflow-add-bytes-then-counts-at
-overflow-add-bytes-then-counts-at c =
+pub overflow_add-bytes-then-counts_at : goal.overflow_add-bytes-then-counts_at
+overflow_add-bytes-then-counts_at c =
     let s = get_or c.used-table.result.now c.loop-i.i no_slot in
     let n = weight-reads (take c.loop-i.i c.used-table.result.now) in
     let t = length-take c.loop-i.i c.used-table.result.now in
@@ -25,12 +24,12 @@ pub loop-i-preserved : goal.loop-i-preserved
 loop-i-preserved c =
     let xs = c.used-table.result.now in
     let i = c.loop-i.i in
-    elim c.if-counts-at.branch [
-      | then-counts-at w ↦
-          let a = counted xs i c.loop-i-test.true (sym c.counts-at.ensures ∙ w.if-counts-at.true) in
+    elim c.if-counts_at.branch [
+      | then-counts_at w ↦
+          let a = counted xs i c.loop-i-test.true (sym c.counts_at.ensures ∙ w.if-counts_at.true) in
           (omega (arith, w.names-is, c.loop-i.invariant.0, a.names), omega (arith, w.bytes-is, c.loop-i.invariant.1, a.bytes, ap length w.name.ensures, ap length w.value.ensures))
-      | else-counts-at w ↦
-          let e = sym (reads_no-more xs i c.loop-i-test.true (sym c.counts-at.ensures ∙ w.if-counts-at.false)) in
+      | else-counts_at w ↦
+          let e = sym (reads_no-more xs i c.loop-i-test.true (sym c.counts_at.ensures ∙ w.if-counts_at.false)) in
           (w.names-is ∙ (c.loop-i.invariant.0 ∙ ap size e), w.bytes-is ∙ (c.loop-i.invariant.1 ∙ ap weight e))
     ]
 

@@ -1,4 +1,4 @@
-use Rattle.std.proofs.Common.{◌≡◌, ℕ, ◌-◌, true, List, ◌++◌, length, drop, replicate, Some, sym, refl, ap, ◌∙◌, arith}
+use Rattle.std.proofs.Common.{◌≡◌, ℕ, ◌-◌, true, ◌++◌, length, drop, replicate, Some, sym, refl, ap, ◌∙◌, arith}
 use Rattle.std.proofs.lemmas.Bool.{cond-true}
 use Rattle.std.proofs.lemmas.List.{drop-replicate}
 use Rattle.names.specs.Names.{Bytes, storable}
@@ -20,7 +20,7 @@ given k v s e f = ap Some f ∙ sym (cond-true (storable k v) _ _ e)
 pub returns : goal.returns
 returns c =
     let z = c.empty-slot.ensures in
-    given c.args.name.now c.args.value.now _ (sym c.is-storable.ensures ∙ c.if-not-is-storable.false)
+    given c.args.name.now c.args.value.now _ (sym c.is_storable.ensures ∙ c.if-not-is_storable.false)
     (written c.args.name.now c.args.value.now _ _
-    (fills 16 c.args.name.now _ _ c.copy-from-slice.ensures.after (ap (λ s. s.name) z))
-    (fills 64 c.args.value.now _ _ c.copy-from-slice-2.ensures.after (ap (λ s. s.value) z)))
+    (fills 16 c.args.name.now _ _ c.copy_from_slice.ensures.after (ap (λ s. s.name) z))
+    (fills 64 c.args.value.now _ _ c.copy_from_slice-2.ensures.after (ap (λ s. s.value) z)))
