@@ -1,5 +1,6 @@
 //! Bytes written as hexadecimal digits.
 #![tactic(auto)]
+
 ghost use Rattle.std.specs.Prelude.{◌<◌, IfSome};
 
 use anyhow::anyhow;
