@@ -1,5 +1,6 @@
 //! The words of a script line, bytes as a script writes them, and the buffers that it lends.
 #![tactic(auto)]
+
 use std::alloc::{AllocError, AllocFailed, Global};
 use std::mem;
 
