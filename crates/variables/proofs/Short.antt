@@ -1,5 +1,5 @@
 -- No value of a store exceeds 64 bytes. Assumes nothing.
-use Rattle.std.proofs.Common.{◌≡◌, ◌≤◌, true, not, ◌&&◌, eqb, leb, [], ◌∷◌, length, arith}
+use Rattle.std.proofs.Common.{◌≡◌, ◌≤◌, true, not, ◌&&◌, eqb, [], ◌∷◌, length, arith}
 use Rattle.std.specs.Str.{bytes_eq}
 use Rattle.std.proofs.lemmas.Bool.{cond_both, and_parts}
 use Rattle.names.specs.Names.{Bytes, storable}

@@ -1,5 +1,6 @@
 //! The variables of any store, as a text's source of values.
 #![tactic(auto)]
+
 ghost use Rattle.std.specs.Prelude.{◌≡◌, ◌≤◌, length};
 ghost use Rattle.store.specs.Vars.{look};
 
