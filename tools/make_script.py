@@ -7,7 +7,7 @@ from `@each` to `@end` are written four times, over each kind of store and each 
 are two handhelds of the kind and {k} one of the other, {room} and {tight} a large and a small size for it, {s}
 the shelf's letter.
 The lines from `@times N` to `@over` are written N times.
-Needs target/bin/deckfile (rt check deckfile).
+Needs crates/deckfile/out/deckfile (`rt run -- try data/sample.txt` in crates/deckfile makes it).
 """
 import re
 import subprocess
@@ -21,7 +21,7 @@ SHELVES = [dict(s="F", shelf="file"), dict(s="R", shelf="records")]
 
 
 def hexadecimal(folder, name):
-    tool = ROOT / "target/bin/deckfile"
+    tool = ROOT / "crates/deckfile/out/deckfile"
     out = subprocess.run([tool, "try", folder / name], capture_output=True, text=True, check=True).stdout
     rows = [line for line in out.split("\n") if re.fullmatch(r"([0-9a-f]{2} )+", line)]
     return "".join(rows).replace(" ", "")
