@@ -1,6 +1,7 @@
 //! Acceptance of tables, wherever they lie: one pass over every record, then the test that the
 //! decks' addresses are lawful and different.
 #![tactic(auto)]
+
 ghost use Rattle.std.specs.Prelude.{◌≡◌, length, drop, slice_index_or};
 ghost use Rattle.tables.specs.Records.{no_deck, size_of};
 ghost use Rattle.tables.specs.Meaning.{text_of};

@@ -1,4 +1,4 @@
-use Rattle.std.proofs.Common.{◌≡◌, ℕ, ◌<◌, ◌≤◌, Bool, List, [], length, get_or, sym, ap, ◌∙◌, arith}
+use Rattle.std.proofs.Common.{◌<◌, ◌≤◌, length, sym, ap, ◌∙◌, arith}
 use Rattle.std.specs.Str.{bytes_eq}
 use Rattle.decks.proofs.Rests.{same-is}
 use Rattle.tables.specs.Verdict.{addresses}
@@ -12,8 +12,8 @@ returns-then-eq g c =
     let k = c.loop-k.k in
     let h : k < length t.decks = omega (arith, ap (λ n. n.decks) c.counts-end.ensures) in
     let inside : k < length (addresses t) = omega (arith, many t) in
-    let same = same-is c.deck-address.result.now a c.eq.result c.eq.ensures ∙ c.if-eq.true in
-    let x = c.deck-address.ensures ∙ address-at t k h in
+    let same = same-is c.deck_address.result.now a c.eq.result c.eq.ensures ∙ c.if-eq.true in
+    let x = c.deck_address.ensures ∙ address-at t k h in
     sym (here (addresses t) k a inside (ap (λ b. bytes_eq b a) (sym x) ∙ same)) ∙ c.loop-k.invariant
 
 pub loop-k-preserved : goal.loop-k-preserved
@@ -23,8 +23,8 @@ loop-k-preserved g c =
     let k = c.loop-k.k in
     let h : k < length t.decks = omega (arith, ap (λ n. n.decks) c.counts-end.ensures) in
     let inside : k < length (addresses t) = omega (arith, many t) in
-    let same = same-is c.deck-address.result.now a c.eq.result c.eq.ensures ∙ c.if-eq.false in
-    let x = c.deck-address.ensures ∙ address-at t k h in
+    let same = same-is c.deck_address.result.now a c.eq.result c.eq.ensures ∙ c.if-eq.false in
+    let x = c.deck_address.ensures ∙ address-at t k h in
     sym (later (addresses t) k a inside (ap (λ b. bytes_eq b a) (sym x) ∙ same)) ∙ c.loop-k.invariant
 
 pub returns : goal.returns
