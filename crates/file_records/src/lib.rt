@@ -1,5 +1,6 @@
 //! The records of a shelf file, read from its bytes. Numbers are unsigned, big end first.
 #![tactic(auto)]
+
 ghost use Rattle.std.specs.Prelude.{◌≡◌, ℕ, ◌+◌, ◌<◌, ◌≤◌, length};
 ghost use Rattle.file_records.specs.Layout.{number, ref_in, run_in, deck_in, card_in, binding_in, task_in, assignment_in, counts_at};
 
