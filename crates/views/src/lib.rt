@@ -1,5 +1,6 @@
 //! What a shelf hands out, made from the records of any tables.
 #![tactic(auto)]
+
 ghost use Rattle.std.specs.Prelude.{◌≡◌, IfSome};
 ghost use Rattle.std.specs.List.{slice_get};
 ghost use Rattle.decks.specs.Views.{Lies, opt, deck_of, card_of, binding_of, task_of, assignment_of};

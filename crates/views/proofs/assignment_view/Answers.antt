@@ -7,6 +7,6 @@ unfolding assignment_no
 returns g c =
     let m = g.T.Tables.memory c.args.tables.now in
     let pool = c.pool.result.now in
-    let v = c.assignment-from.result in
-    let h = c.assignment-from.ensures in
+    let v = c.assignment_from.result in
+    let h = c.assignment_from.ensures in
     record { means = cc; placed = cc; lies = (front-lies m pool v.name c.pool.ensures.front h.name.lies, front-lies m pool v.value c.pool.ensures.front h.value.lies) }

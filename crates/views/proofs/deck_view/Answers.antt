@@ -7,6 +7,6 @@ unfolding deck_no
 returns g c =
     let m = g.T.Tables.memory c.args.tables.now in
     let pool = c.pool.result.now in
-    let v = c.deck-from.result in
-    let h = c.deck-from.ensures in
+    let v = c.deck_from.result in
+    let h = c.deck_from.ensures in
     record { means = cc; placed = cc; lies = front-lies m pool v.address c.pool.ensures.front h.address.lies }

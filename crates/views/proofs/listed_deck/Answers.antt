@@ -1,4 +1,4 @@
-use Rattle.std.proofs.Common.{◌≡◌, ◌<◌, ◌≤◌, length, Some, sym, ap, ◌∙◌, arith}
+use Rattle.std.proofs.Common.{◌<◌, ◌≤◌, length, Some, sym, ap, ◌∙◌, arith}
 use Rattle.std.specs.List.{slice_get}
 use Rattle.tables.specs.Meaning.{listed}
 use Rattle.tables.specs.Verdict.{under}
@@ -12,9 +12,9 @@ returns-then-k-counts g c =
     let h : k < length t.decks = omega (arith, ap (λ n. n.decks) c.counts.ensures) in
     let e = c.in-None.is in
     record {
-      means = ap Some c.deck-view.ensures.means ∙ sym (nth-listed t k h) ∙ ap (λ v. slice_get (under v (listed t)) k) (sym e);
-      placed = c.deck-view.ensures.placed;
-      lies = c.deck-view.ensures.lies;
+      means = ap Some c.deck_view.ensures.means ∙ sym (nth-listed t k h) ∙ ap (λ v. slice_get (under v (listed t)) k) (sym e);
+      placed = c.deck_view.ensures.placed;
+      lies = c.deck_view.ensures.lies;
     }
 
 pub returns-else-k-counts : goal.returns-else-k-counts
