@@ -1,5 +1,5 @@
 -- What a slot table answers when a pair is set. Assumes nothing.
-use Rattle.std.proofs.Common.{◌≡◌, ℕ, ◌*◌, ◌<◌, ◌≤◌, min, Bool, true, false, not, eqb, List, [], ◌∷◌, length, set, Ok, Err, sym, refl, ap, ◌∙◌, subst, arith, length-take}
+use Rattle.std.proofs.Common.{◌≡◌, ℕ, ◌*◌, ◌<◌, ◌≤◌, min, true, not, eqb, List, [], ◌∷◌, length, set, Ok, Err, sym, ap, ◌∙◌, subst, arith, length-take}
 use Rattle.std.proofs.lemmas.Bool.{true≢false, and_from, and_left, le-leb, lt-leb}
 use Rattle.names.specs.Names.{Bytes, storable}
 use Rattle.store.specs.declared.Refusal.TheVariants.{NoRoom}

@@ -1,5 +1,5 @@
 -- The limits of a slot table, and what the meaning of every table keeps to. Assumes nothing.
-use Rattle.std.specs.Prelude.{ℕ, ◌*◌, min, List, length}
+use Rattle.std.specs.Prelude.{◌*◌, min, List, length}
 use Rattle.std.proofs.Common.{arith, length-take}
 use Rattle.store.specs.Lawful.{Lawful}
 use Rattle.store.specs.Limits.{Limits}

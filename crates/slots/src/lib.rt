@@ -1,5 +1,6 @@
 //! The slot table: a variable store over a lent slice of slots, found and rewritten in place.
 #![tactic(auto)]
+
 ghost use Rattle.std.specs.Prelude.{◌≡◌, [], Ok, Err};
 ghost use Rattle.slot_rows.specs.Slots.{empty_slot};
 ghost use Rattle.slot_rows.specs.Rows.{reads};
