@@ -1,12 +1,12 @@
 -- What is found at a place. Assumes nothing.
-use Rattle.std.proofs.Common.{◌≡◌, Bool, List, Some, None, Option, sym, refl, ap, ◌∙◌, subst}
+use Rattle.std.proofs.Common.{◌≡◌, Bool, List, Some, None, Option, sym, ap, ◌∙◌, subst}
 use Rattle.names.specs.Names.{Bytes}
 use Rattle.address.specs.Address.{deck_of, fragment_of}
 use Rattle.decks.specs.Model.{Task, Binding, Card, Deck, deck_at, card_at, pressed, enter_of}
-use Rattle.decks.specs.Allowances.{TaskAllowed, BindingAllowed, CardAllowed, DeckAllowed, PerhapsAllowed}
+use Rattle.decks.specs.Allowances.{TaskAllowed, BindingAllowed, CardAllowed, DeckAllowed}
 use Rattle.decks.proofs.Kept.{Held, card-kept, enter-kept, pressed-kept}
 use Rattle.machine.specs.Place as machine
-use Rattle.places.specs.Places.{PlaceAllowed, task_bound}
+use Rattle.places.specs.Places.{PlaceAllowed}
 
 -- no deck
 pub nowhere : (ds : List Deck) (a : Bytes) → None ≡ deck_at ds (deck_of a) → None ≡ machine.place_at ds a

@@ -1,5 +1,6 @@
 //! Where an address leads on a shelf: a deck and a card of it, and the tasks that are to be had there.
 #![tactic(auto)]
+
 ghost use Rattle.std.specs.Prelude.{◌≡◌, IfSome};
 ghost use Rattle.address.specs.Meaning.{address_of};
 ghost use Rattle.decks.specs.Model.{pressed, enter_of};

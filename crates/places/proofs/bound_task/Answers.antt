@@ -1,4 +1,4 @@
-use Rattle.std.proofs.Common.{◌≡◌, Some, sym, ap, ◌∙◌, subst}
+use Rattle.std.proofs.Common.{Some, sym, ap, ◌∙◌, subst}
 use Rattle.decks.specs.Allowances.{TaskAllowed}
 use Rattle.decks.specs.Views.{binding_of}
 use Rattle.places.specs.Places.{place_of, task_bound}

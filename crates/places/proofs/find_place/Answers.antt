@@ -1,4 +1,4 @@
-use Rattle.std.proofs.Common.{◌≡◌, Some, None, ap, ◌∙◌}
+use Rattle.std.proofs.Common.{◌≡◌, Some, ap, ◌∙◌}
 use Rattle.address.specs.Address as addresses
 use Rattle.address.specs.Meaning.{address_of}
 use Rattle.decks.specs.Model.{deck_at, card_at}
@@ -12,9 +12,9 @@ returns g c =
     let ds = g.S.Shelf.decks c.args.shelf.now in
     let a = address_of c.args.address.now in
     let d = deck_of n c.in-Some.deck in
-    let k = card_of n c.in-Some-find-card.card in
+    let k = card_of n c.in-Some-find_card.card in
     let e : Some d ≡ deck_at ds (addresses.deck_of a) = c.in-Some.ensures.found ∙ ap (deck_at ds) c.deck.ensures in
-    let q : Some k ≡ card_at d.cards (addresses.fragment_of a) = c.in-Some-find-card.ensures.found ∙ ap (card_at d.cards) c.fragment.ensures in
+    let q : Some k ≡ card_at d.cards (addresses.fragment_of a) = c.in-Some-find_card.ensures.found ∙ ap (card_at d.cards) c.fragment.ensures in
     record {
       found = somewhere ds a d (Some k) e q;
       allowed = record { deck = c.in-Some.ensures.allowed; card = card-allowed d (addresses.fragment_of a) k c.in-Some.ensures.allowed q };
