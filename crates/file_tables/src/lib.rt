@@ -1,6 +1,7 @@
 //! The tables of a shelf file, read in place: a pool of text, the tables of decks, cards, bindings,
 //! tasks and assignments, and a trailer of 14 bytes.
 #![tactic(auto)]
+
 ghost use Rattle.std.specs.Prelude.{◌≡◌, ℕ, ◌+◌, ◌-◌, ◌*◌, ◌<◌, ◌≤◌, length};
 ghost use Rattle.file_tables.specs.File.{total, size_ok, form_ok, sum_ok, frame, counts_in, tabled};
 

@@ -1,7 +1,7 @@
 use Rattle.file_tables.proofs.Frames.{room}
 use Rattle.file_tables.proofs.FileTables.of.Goals as goal
 
-pub invariant-of-result : goal.invariant-of-result
-invariant-of-result c =
-    let r = room c.args.bytes.now c.counts-in.result c.counts-in.ensures in
-    (c.counts-in.ensures, (r.inside, (r.most, tt)))
+pub invariant_of-result : goal.invariant_of-result
+invariant_of-result c =
+    let r = room c.args.bytes.now c.counts_in.result c.counts_in.ensures in
+    record { counted = c.counts_in.ensures; inside = r.inside; most = r.most }

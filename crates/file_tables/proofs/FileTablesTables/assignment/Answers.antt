@@ -1,4 +1,4 @@
-use Rattle.std.proofs.Common.{◌≡◌, ◌∙◌}
+use Rattle.std.proofs.Common.{◌∙◌}
 use Rattle.tables.specs.Records.{no_assignment}
 use Rattle.file_records.specs.Layout.{assignment_in}
 use Rattle.file_tables.specs.File.{row, assignment_place, counts_in}
@@ -15,4 +15,4 @@ pub returns : goal.returns
 returns c =
     let s = c.args.self.now in
     let xs = s.bytes.now in
-    c.assignment-at.ensures ∙ row_is (row assignment_place assignment_in xs) (λ n. n.assignments) s.counts (counts_in xs) s.counted c.args.i no_assignment c.if-i-n.false
+    c.assignment_at.ensures ∙ row_is (row assignment_place assignment_in xs) (λ n. n.assignments) s.counts (counts_in xs) s.counted c.args.i no_assignment c.if-i-n.false

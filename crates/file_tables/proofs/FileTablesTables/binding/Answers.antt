@@ -1,4 +1,4 @@
-use Rattle.std.proofs.Common.{◌≡◌, ◌∙◌}
+use Rattle.std.proofs.Common.{◌∙◌}
 use Rattle.tables.specs.Records.{no_binding}
 use Rattle.file_records.specs.Layout.{binding_in}
 use Rattle.file_tables.specs.File.{row, binding_place, counts_in}
@@ -15,4 +15,4 @@ pub returns : goal.returns
 returns c =
     let s = c.args.self.now in
     let xs = s.bytes.now in
-    c.binding-at.ensures ∙ row_is (row binding_place binding_in xs) (λ n. n.bindings) s.counts (counts_in xs) s.counted c.args.i no_binding c.if-i-n.false
+    c.binding_at.ensures ∙ row_is (row binding_place binding_in xs) (λ n. n.bindings) s.counts (counts_in xs) s.counted c.args.i no_binding c.if-i-n.false

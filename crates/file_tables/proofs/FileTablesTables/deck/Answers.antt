@@ -1,4 +1,4 @@
-use Rattle.std.proofs.Common.{◌≡◌, ◌∙◌}
+use Rattle.std.proofs.Common.{◌∙◌}
 use Rattle.tables.specs.Records.{no_deck}
 use Rattle.file_records.specs.Layout.{deck_in}
 use Rattle.file_tables.specs.File.{row, deck_place, counts_in}
@@ -15,4 +15,4 @@ pub returns : goal.returns
 returns c =
     let s = c.args.self.now in
     let xs = s.bytes.now in
-    c.deck-at.ensures ∙ row_is (row deck_place deck_in xs) (λ n. n.decks) s.counts (counts_in xs) s.counted c.args.i no_deck c.if-i-n.false
+    c.deck_at.ensures ∙ row_is (row deck_place deck_in xs) (λ n. n.decks) s.counts (counts_in xs) s.counted c.args.i no_deck c.if-i-n.false

@@ -1,4 +1,4 @@
-use Rattle.std.proofs.Common.{◌≡◌, ◌∙◌}
+use Rattle.std.proofs.Common.{◌∙◌}
 use Rattle.tables.specs.Records.{no_task}
 use Rattle.file_records.specs.Layout.{task_in}
 use Rattle.file_tables.specs.File.{row, task_place, counts_in}
@@ -15,4 +15,4 @@ pub returns : goal.returns
 returns c =
     let s = c.args.self.now in
     let xs = s.bytes.now in
-    c.task-at.ensures ∙ row_is (row task_place task_in xs) (λ n. n.tasks) s.counts (counts_in xs) s.counted c.args.i no_task c.if-i-n.false
+    c.task_at.ensures ∙ row_is (row task_place task_in xs) (λ n. n.tasks) s.counts (counts_in xs) s.counted c.args.i no_task c.if-i-n.false
