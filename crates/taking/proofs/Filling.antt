@@ -1,16 +1,15 @@
 -- What a filled assignment comes to. Assumes nothing.
-use Rattle.std.proofs.Common.{◌≡◌, ℕ, ◌+◌, ◌-◌, ◌≤◌, Bool, true, false, cond, ◌&&◌, leb, List, [], length, take, drop, Some, None, Ok, Err, Option, Result, sym, refl, ap, ◌∙◌, subst, arith}
+use Rattle.std.proofs.Common.{◌≡◌, ℕ, ◌+◌, ◌-◌, ◌≤◌, Bool, true, false, cond, ◌&&◌, leb, length, take, drop, Some, None, Ok, Err, Option, Result, sym, refl, ap, ◌∙◌, subst, arith}
 use lib.Seq.{sets}
 use Rattle.std.proofs.lemmas.List.Edits.{sets-eq}
 use Rattle.std.proofs.lemmas.Bool.{leb-true, le-leb}
 use Rattle.std.proofs.lemmas.List.{take_at}
-use Rattle.names.specs.Names.{Bytes, is_name, storable_name, storable}
+use Rattle.names.specs.Names.{Bytes, is_name, storable}
 use Rattle.store.specs.Vars.{Vars}
 use Rattle.text.specs.Fill.{broken_at}
 use Rattle.text.specs.declared.TextFault.{TextFault}
 use Rattle.decks.specs.declared.Kind.{Kind}
 use Rattle.decks.specs.Model.{Assignment}
-use Rattle.faults.specs.declared.Within.{Within}
 use Rattle.faults.specs.Layers.{placed_in}
 use Rattle.machine.specs.Assigning.{plain, fault_of}
 use Rattle.taking.specs.Short.{short_answer, short_bytes}

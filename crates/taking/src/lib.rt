@@ -1,6 +1,7 @@
 //! Taking a task: its assignments are filled against the variables as they are, and so is the address of a go.
 //! What is taken makes the browser stand or sets it out; a fault changes nothing.
 #![tactic(auto)]
+
 ghost use Rattle.std.specs.Prelude.{◌≡◌, ℕ, ◌<◌, ◌≤◌, true, false, [], length, Some, None, MatchOption, MatchResult, OnErr};
 ghost use Rattle.names.specs.Names.{is_name};
 ghost use Rattle.store.specs.Vars.{look, size};

@@ -1,12 +1,11 @@
-use Rattle.std.proofs.Common.{◌≡◌, ◌<◌, length, sym, subst, arith}
+use Rattle.std.proofs.Common.{sym, subst, arith}
 use Rattle.std.proofs.lemmas.Result.{err_from_is_err_and}
-use Rattle.assignments.specs.Listed.{listed}
 use Rattle.decks.specs.Allowances.{AssignmentAllowed}
 use Rattle.taking.proofs.Gathering.{allowed_at, counted, gathers, faults-at, gathered-all, none_yet}
 use Rattle.taking.proofs.gather.Goals as goal
 
-pub add-filled-requires : goal.add-filled-requires
-add-filled-requires g c =
+pub add_filled-requires : goal.add_filled-requires
+add_filled-requires g c =
     let f = (g.H.Shelf.parts c.args.shelf.now).assignments in
     let r = c.args.task.now.assignments in
     record {
@@ -14,17 +13,17 @@ add-filled-requires g c =
       room = omega (arith, c.loop-k.invariant.few, c.loop-k-test.true, c.requires.few, counted f r);
     }
 
-pub returns-in-err-add-filled : goal.returns-in-err-add-filled
-returns-in-err-add-filled g c =
-    let p = err_from_is_err_and c.from-residual.result c.from-residual.ensures.1 in
-    rw (p.1, p.2) (faults-at _ _ _ _ _ _ c.loop-k.invariant _ _ c.loop-k-test.true c.assignment-given.ensures.means c.in-err-add-filled.ensures)
+pub returns-in_err-add_filled : goal.returns-in_err-add_filled
+returns-in_err-add_filled g c =
+    let p = err_from_is_err_and c.from_residual.result c.from_residual.ensures.1 in
+    rw (p.1, p.2) (faults-at _ _ _ _ _ _ c.loop-k.invariant _ _ c.loop-k-test.true c.assignment-given.ensures.means c.in_err-add_filled.ensures)
 
 pub loop-k-init : goal.loop-k-init
 loop-k-init g c = none_yet _ _ _ _ _ c.none-pairs.ensures
 
 pub loop-k-preserved : goal.loop-k-preserved
 loop-k-preserved g c =
-    let e = c.in-ok-add-filled.ensures in
+    let e = c.in_ok-add_filled.ensures in
     gathers _ _ _ _ _ _ c.loop-k.invariant _ _ c.loop-k-test.true c.assignment-given.ensures.means e.0 e.1
 
 pub returns : goal.returns
