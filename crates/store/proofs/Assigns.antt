@@ -1,14 +1,14 @@
 -- What setting and unsetting do to the meaning of a store. Assumes nothing.
-use Rattle.std.proofs.Common.{◌≡◌, ℕ, suc, ◌+◌, ◌-◌, ◌<◌, ◌≤◌, Bool, true, false, cond, not, ◌&&◌, ◌||◌, eqb, ltb, leb, List, [], ◌∷◌, length, Ok, Err, sym, refl, ap, ◌∙◌, arith}
+use Rattle.std.proofs.Common.{◌≡◌, ℕ, suc, ◌+◌, ◌-◌, ◌≤◌, Bool, true, false, cond, not, ◌&&◌, eqb, leb, [], ◌∷◌, length, Ok, Err, sym, refl, ap, ◌∙◌, arith}
 use Rattle.std.specs.Str.{bytes_eq}
 use Rattle.std.proofs.lemmas.Bool.Decides.{nat_tests}
 use Rattle.std.proofs.lemmas.Bool.{and_parts, and_from, leb-true}
 use Rattle.names.specs.Names.{Bytes, is_name, storable_name, storable}
 use Rattle.store.specs.Order.{before}
-use Rattle.store.specs.Vars.{Vars, lacks, without, insert, keep, assign, look, size, weight, above, sorted, sound}
+use Rattle.store.specs.Vars.{Vars, lacks, without, insert, assign, look, size, weight, above, sorted, sound}
 use Rattle.store.specs.Limits.{Limits, within, verdict, one, load}
-use Rattle.store.specs.declared.Refusal.TheVariants.{Unstorable, NoRoom}
-use Rattle.store.proofs.Order.{same_refl, same_sym, same-is, before_irr, before_asym, before-not_same, before-total, before_trans}
+use Rattle.store.specs.declared.Refusal.TheVariants.{NoRoom}
+use Rattle.store.proofs.Order.{same_refl, same-is, before-not_same, before-total, before_trans}
 
 abbrev pub is_nil : Bytes → Bool
 is_nil [] = true

@@ -1,5 +1,6 @@
 //! Variable stores: what every store means, whatever its memory looks like.
 #![tactic(auto)]
+
 ghost use Rattle.std.specs.Prelude.{◌≡◌, ℕ, ◌+◌, ◌-◌, ◌<◌, ◌≤◌, ◌&&◌, [], length, Ok, Err, nat_le};
 ghost use Rattle.store.specs.Order.{before};
 ghost use Rattle.store.specs.Vars.{Vars, assign, look, size, weight};

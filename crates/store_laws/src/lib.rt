@@ -1,5 +1,6 @@
 //! Two stores with the same limits and the same meaning cannot be told apart, whatever their memories are.
 #![tactic(auto)]
+
 ghost use Rattle.std.specs.Prelude.{◌≡◌, true, [], ◌∷◌};
 ghost use Rattle.std.specs.Str.{bytes_eq};
 ghost use Rattle.store.specs.Vars.{look};
