@@ -3,6 +3,7 @@
 //! A line that was begun and not closed is withdrawn on every way out, by a guard over the length
 //! of the page.
 #![tactic(auto)]
+
 ghost use Rattle.std.specs.Prelude.{◌≡◌, ◌-◌, ◌≤◌, ◌++◌, length, take, replicate, if◌then◌else◌};
 ghost use Rattle.decks.specs.Allowances.{ShortText};
 ghost use Rattle.decks.specs.Model.{active};

@@ -23,7 +23,7 @@ returns-in-NoRoom g c =
     let b = binding_of n c.in-Some.walked.binding in
     let step = c.in-Some.ensures.walks in
     let e = c.in-NoRoom.ensures in
-    let s = stopped vs (active_from all c.loop-walked.i) b (active_from all c.in-Some.walked.next) c.loop-walked.buf c.write-label.new.buf c.loop-walked.len c.write-label.new.len c.loop-walked.labels _ _ step.more c.loop-walked.invariant.0 e.outcome e.page in
+    let s = stopped vs (active_from all c.loop-walked.i) b (active_from all c.in-Some.walked.next) c.loop-walked.buf c.write_label.new.buf c.loop-walked.len c.write_label.new.len c.loop-walked.labels _ _ step.more c.loop-walked.invariant.0 e.outcome e.page in
     record { labels = s.1; page = s.0; within = e.within }
 
 -- the next label stands
@@ -35,7 +35,7 @@ loop-walked-preserved-in-Stands g c =
     let b = binding_of n c.in-Some.walked.binding in
     let step = c.in-Some.ensures.walks in
     let e = c.in-Stands.ensures in (
-      added vs (active_from all c.loop-walked.i) b (active_from all c.in-Some.walked.next) c.loop-walked.buf c.write-label.new.buf c.loop-walked.len c.write-label.new.len c.loop-walked.labels _ _ step.more c.loop-walked.invariant.0 e.outcome e.within (omega (arith, c.write-label.auto.buf)) e.page,
+      added vs (active_from all c.loop-walked.i) b (active_from all c.in-Some.walked.next) c.loop-walked.buf c.write_label.new.buf c.loop-walked.len c.write_label.new.len c.loop-walked.labels _ _ step.more c.loop-walked.invariant.0 e.outcome e.within (omega (arith, c.write_label.auto.buf)) e.page,
       (subst (AllByRecursion BindingAllowed) step.more c.loop-walked.invariant.1).1,
       omega (arith, step.later, c.loop-walked.invariant.2),
     )
@@ -49,7 +49,7 @@ loop-walked-preserved g c =
     let b = binding_of n c.in-Some.walked.binding in
     let step = c.in-Some.ensures.walks in
     let e = c.in-LeftOut.ensures in (
-      passed vs (active_from all c.loop-walked.i) b (active_from all c.in-Some.walked.next) c.loop-walked.buf c.write-label.new.buf c.loop-walked.len c.write-label.new.len c.loop-walked.labels _ _ step.more c.loop-walked.invariant.0 e.outcome e.within (omega (arith, c.write-label.auto.buf)) e.page,
+      passed vs (active_from all c.loop-walked.i) b (active_from all c.in-Some.walked.next) c.loop-walked.buf c.write_label.new.buf c.loop-walked.len c.write_label.new.len c.loop-walked.labels _ _ step.more c.loop-walked.invariant.0 e.outcome e.within (omega (arith, c.write_label.auto.buf)) e.page,
       (subst (AllByRecursion BindingAllowed) step.more c.loop-walked.invariant.1).1,
       omega (arith, step.later, c.loop-walked.invariant.2),
     )

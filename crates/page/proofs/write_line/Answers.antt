@@ -8,8 +8,8 @@ use Rattle.page.proofs.Written.{line-room, line-stands, stands-within, line_with
 use Rattle.page.proofs.write_line.Goals as goal
 
 -- the label was refused: the guard put the former length back
-pub returns-in-err-filled : goal.returns-in-err-filled
-returns-in-err-filled g c =
+pub returns-in_err-filled : goal.returns-in_err-filled
+returns-in_err-filled g c =
     let vs = g.S.Store.meaning c.args.store.now in
     let t = c.args.label.now in
     let buf = c.args.buf.now in
@@ -17,12 +17,12 @@ returns-in-err-filled g c =
     let k = length (set buf n 10) - (n + 1) in
     let part = take k (drop (n + 1) (set buf n 10)) in
     let h : n < length buf = c.if-former-buf.false in
-    let p = err_from_is_err_and c.from-residual.result c.from-residual.ensures.1 in
-    let r : c.from-residual.result ≡ Err c.in-err-filled.field-0.0 = p.1 ∙ ap (λ y. Err y) p.2 in
-    let back = c.drop-line-in-err-filled.ensures in
+    let p = err_from_is_err_and c.from_residual.result c.from_residual.ensures.1 in
+    let r : c.from_residual.result ≡ Err c.in_err-filled.field-0.0 = p.1 ∙ ap (λ y. Err y) p.2 in
+    let back = c.drop-line-in_err-filled.ensures in
     let after = put_mid (n + 1) k (set buf n 10) c.fill.new.buf in
     record {
-      answer = r ∙ line_refused vs t part (length buf - n) (line-room buf n h) c.in-err-filled.field-0.0 c.requires.short c.in-err-filled.ensures.answer;
+      answer = r ∙ line_refused vs t part (length buf - n) (line-room buf n h) c.in_err-filled.field-0.0 c.requires.short c.in_err-filled.ensures.answer;
       page = ap (λ z. take z after) back ∙ line_withdrawn buf c.fill.new.buf n k h ∙ ap (λ z. lengthened z (take n buf) (whole_line vs t)) (sym r);
       within = subst (λ z. z ≤ length after) (sym back) (withdrawn-within buf c.fill.new.buf n k h);
     }
@@ -36,12 +36,12 @@ returns g c =
     let k = length (set buf n 10) - (n + 1) in
     let part = take k (drop (n + 1) (set buf n 10)) in
     let h : n < length buf = c.if-former-buf.false in
-    let e = c.in-ok-filled.ensures in
-    let f = filled_in vs t part c.in-ok-filled.filled e.answer in
+    let e = c.in_ok-filled.ensures in
+    let f = filled_in vs t part c.in_ok-filled.filled e.answer in
     let len = c.drop-line-2.ensures ∙ ap (λ z. (n + 1) + z) f.len in
     let after = put_mid (n + 1) k (set buf n 10) c.fill.new.buf in
     record {
-      answer = line-granted vs t part (length buf - n) (line-room buf n h) c.in-ok-filled.filled f;
+      answer = line-granted vs t part (length buf - n) (line-room buf n h) c.in_ok-filled.filled f;
       page = ap (λ z. take z after) len ∙ line-stands buf part c.fill.new.buf (plain vs t) n k h f.room e.bytes;
       within = subst (λ z. z ≤ length after) (sym len) (stands-within buf part c.fill.new.buf (plain vs t) n k h f.room e.bytes);
     }

@@ -10,14 +10,14 @@ returns g c =
     let p = place_of (g.H.Shelf.parts c.args.shelf.now) c.args.place.now in
     let buf = c.args.buf.now in
     let first = c.fill.new.buf in
-    let last = c.write-labels-labels.new.buf in
-    let n = c.in-ok-len.len in
-    let len = c.write-labels-labels.new.len in
-    let labels = c.write-labels-labels.result in
-    let e = c.in-ok-len.ensures in
-    let w = c.write-labels-labels.ensures in
+    let last = c.write_labels-labels.new.buf in
+    let n = c.in_ok-len.len in
+    let len = c.write_labels-labels.new.len in
+    let labels = c.write_labels-labels.result in
+    let e = c.in_ok-len.ensures in
+    let w = c.write_labels-labels.ensures in
     let f = filled_in vs p.card.body buf n e.answer in
     record {
-      answer = page-answer vs p buf first last n len labels f e.bytes w.labels w.page w.within (omega (arith, c.write-labels-labels.auto.buf));
-      bytes = page-bytes vs p buf first last n len labels f e.bytes w.labels w.page w.within (omega (arith, c.write-labels-labels.auto.buf)) c.blank.new.rest c.blank.ensures;
+      answer = page-answer vs p buf first last n len labels f e.bytes w.labels w.page w.within (omega (arith, c.write_labels-labels.auto.buf));
+      bytes = page-bytes vs p buf first last n len labels f e.bytes w.labels w.page w.within (omega (arith, c.write_labels-labels.auto.buf)) c.blank.new.rest c.blank.ensures;
     }
