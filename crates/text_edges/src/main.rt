@@ -1,6 +1,7 @@
 //! Texts at their edges: each case is filled into a buffer just long enough and into one a byte short, and
 //! compared with what the rules say. Prints every case that differs, and how many there were.
 #![tactic(auto)]
+
 use packed::PackedRun;
 use store::Store;
 use text::{Mode, TextFault, fill};
