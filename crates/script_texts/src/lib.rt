@@ -1,5 +1,6 @@
 //! The commands on texts and addresses, and why a command is not worked.
 #![tactic(auto)]
+
 use script_words::{buffer, shown, size_of};
 use std::alloc::{AllocError, Global};
 use text::{Mode, TextFault, Values, room_for_escaping};
