@@ -16,6 +16,7 @@
 //! A kind is noop, go, prev or refresh. Empty lines and lines that begin with `;` are passed over.
 //! What is written here is not judged: a shelf that opens the file says what is wrong with it.
 #![tactic(auto)]
+
 use anyhow::anyhow;
 use decks::Run;
 use std::alloc::{AllocError, Global};
