@@ -1,5 +1,6 @@
 //! A shelf that holds records in five lent tables, with a lent pool of text.
 #![tactic(auto)]
+
 ghost use Rattle.std.specs.Prelude.{◌≡◌};
 ghost use Rattle.decks.specs.Allowances.{Allowed};
 ghost use Rattle.tables.specs.Meaning.{numbers, places_of};
