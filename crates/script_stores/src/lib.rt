@@ -1,5 +1,6 @@
 //! The stores that a script has made, of either kind, and the commands on them.
 #![tactic(auto)]
+
 use commands::on_store;
 use packed::PackedRun;
 use script_texts::DeskError;
