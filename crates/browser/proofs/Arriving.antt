@@ -1,5 +1,5 @@
 -- Arrive, where the ticket counts and the errand leads to a place. Assumes nothing.
-use Rattle.std.proofs.Common.{◌≡◌, ℕ, Bool, true, false, cond, eqb, List, [], Some, None, Ok, Err, Result, refl, ap, arith}
+use Rattle.std.proofs.Common.{◌≡◌, ℕ, Bool, true, false, cond, eqb, List, [], Some, None, Ok, Err, Result, ap, arith}
 use Rattle.faults.specs.declared.CallFault.{CallFault}
 use Rattle.faults.specs.declared.CallFault.TheVariants.{WrongTicket}
 use Rattle.errands.specs.declared.Trip as errand

@@ -2,6 +2,7 @@
 //!
 //! The shelf comes with each call. A call that is turned down leaves everything as it was.
 #![tactic(auto)]
+
 ghost use Rattle.std.specs.Prelude.{◌≡◌, [], ◌∷◌};
 ghost use Rattle.machine.specs.State.{fresh};
 ghost use Rattle.machine.specs.Call.{new, start, target, give_up, type, fill, value, address};
