@@ -1,5 +1,6 @@
 //! A shelf that reads a file in place: the bytes are judged once, and then answer every question.
 #![tactic(auto)]
+
 ghost use Rattle.std.specs.Prelude.{◌≡◌, [], OnSome};
 ghost use Rattle.decks.specs.Allowances.{Allowed};
 ghost use Rattle.tables.specs.Meaning.{numbers, places_of, listed};
