@@ -1,5 +1,6 @@
 //! Any tables copied into records of their own, so that a record shelf can hold what a file holds.
 #![tactic(auto)]
+
 ghost use Rattle.std.specs.Prelude.{◌≡◌, IfOk};
 ghost use Rattle.records.specs.Lent.{tabled};
 ghost use Rattle.loaded.specs.Copies.{copied};
