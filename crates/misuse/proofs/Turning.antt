@@ -1,5 +1,5 @@
 -- Setting out and then giving up, asking for the target in between, or being refused: the state is as it was.
-use Rattle.std.proofs.Common.{◌≡◌, ℕ, Bool, true, false, cond, eqb, leb, List, [], ◌∷◌, length, Some, None, sym, refl, ap, ◌∙◌, inl, inr}
+use Rattle.std.proofs.Common.{◌≡◌, ℕ, Bool, true, false, cond, leb, List, [], ◌∷◌, length, Some, None, sym, refl, ap, ◌∙◌, inl, inr}
 use lib.Seq.{sets}
 use Rattle.std.proofs.lemmas.Bool.{cases_Bool, cond-true, cond-false, eq-eqb, false≢true}
 use Rattle.names.specs.Names.{Bytes}
@@ -8,11 +8,11 @@ use Rattle.store.specs.Limits.{Limits}
 use Rattle.address.specs.Address.{lawful}
 use Rattle.decks.specs.Model.{Deck}
 use Rattle.machine.specs.declared.Way.TheVariants.{Forward}
-use Rattle.machine.specs.State.{Trip, Errand, none, out, landed, State, with_errand, ended}
+use Rattle.machine.specs.State.{Trip, Errand, none, out, landed, State, with_errand}
 use Rattle.machine.specs.Tickets.{is_free}
 use Rattle.machine.specs.Answer.{Answer, done, standing, outward_ticket, landed_ticket, wrote, page, declined, numbered, Reason, Outcome, tells, refuse, need}
 use Rattle.machine.specs.Going.{call_start, call_arrive, call_give_up, call_follow}
-use Rattle.machine.specs.Asking.{call_target, copy_out, buffer}
+use Rattle.machine.specs.Asking.{call_target, copy_out}
 use Rattle.misuse.specs.Users.{started, after_start, copying, copied, arrives, follows, walk}
 
 abbrev is_outward : Answer → Bool

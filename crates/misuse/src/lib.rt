@@ -1,5 +1,6 @@
 //! Users of tickets. Each spends what it was given: where one lets a ticket go, the proof fails.
 #![tactic(auto)]
+
 ghost use Rattle.std.specs.Prelude.{◌≡◌, []};
 ghost use Rattle.machine.specs.Answer.{done, tells};
 ghost use Rattle.machine.specs.Call.{give_up, follow};

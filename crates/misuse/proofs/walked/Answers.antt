@@ -1,4 +1,4 @@
-use Rattle.std.proofs.Common.{[], sym, ap, ◌∙◌, rules}
+use Rattle.std.proofs.Common.{[], sym, ap, ◌∙◌}
 use Rattle.machine.specs.Answer.{tells}
 use Rattle.machine.specs.Going.{call_arrive, call_follow}
 use Rattle.browser.specs.Meaning.{state_of}
@@ -15,10 +15,10 @@ returns-in-Landed g c =
     let s1 = state_of g.S.Store.meaning c.start.new.self in
     let s2 = state_of g.S.Store.meaning c.arrive.new.self in
     let s3 = state_of g.S.Store.meaning c.follow.new.self in
-    let n = c.in-ok-begun.begun.number in
+    let n = c.in_ok-begun.begun.number in
     let m = c.in-Landed.arrived.number in
-    let w1 = c.in-ok-begun.ensures.worked in
-    let w2 = c.in-ok-arrive.ensures.worked in
+    let w1 = c.in_ok-begun.ensures.worked in
+    let w2 = c.in_ok-arrive.ensures.worked in
     let w3 = c.follow.ensures.worked in
     walks L s ds c.args.address.now s1 n s2 m (tells s3 (step_answer c.follow.result) []) w1.as_defined
     (ap (λ z. tells s2 (step_told z) []) (sym c.in-Landed.is) ∙ w2.as_defined ∙ ap (λ z. call_arrive z s1 ds [] n) w1.limits_stay)
