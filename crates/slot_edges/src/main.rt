@@ -1,5 +1,6 @@
 //! Runs slot tables at the edges of their limits and prints what they answer.
 #![tactic(auto)]
+
 use slots::{Slot, SlotTable};
 use std::io;
 use store::{Refusal, Store};

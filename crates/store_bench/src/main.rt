@@ -3,6 +3,7 @@
 //! Words: the kind of store (`packed` or `slots`), the operation (`set`, `value` or `clear`), how many names are set,
 //! and how many rounds. All but `measure` is written for any store.
 #![tactic(auto)]
+
 use anyhow::{Context, anyhow};
 use packed::PackedRun;
 use slots::{Slot, SlotTable};

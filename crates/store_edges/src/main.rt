@@ -5,6 +5,7 @@
 //! is `ok`, the refusal's number or the value, then how many names are set and their bytes. All but
 //! `packed_runs`, `found_memory` and `side_by_side` is written for any store.
 #![tactic(auto)]
+
 use packed::PackedRun;
 use slots::{Slot, SlotTable};
 use std::alloc::Global;
