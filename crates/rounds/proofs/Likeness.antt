@@ -1,5 +1,5 @@
 -- Two handhelds that are asked the same, from the law of isolation and the wholeness of answers. Assumes nothing.
-use Rattle.std.proofs.Common.{◌≡◌, List, sym, subst}
+use Rattle.std.proofs.Common.{List, sym, subst}
 use Rattle.names.specs.Names.{Bytes}
 use Rattle.decks.specs.Model.{Deck}
 use Rattle.machine.specs.Call.{Call}

@@ -1,10 +1,7 @@
 -- A handheld that is worked by one more call is a handheld. Assumes nothing.
-use Rattle.std.proofs.Common.{◌≡◌, List, [], ◌∷◌, ◌++◌, sym, refl, subst}
-use Rattle.names.specs.Names.{Bytes}
-use Rattle.machine.specs.Call.{Call}
-use Rattle.machine.specs.Answer.{Answer}
+use Rattle.std.proofs.Common.{List, [], ◌∷◌, ◌++◌, sym, refl, subst}
 use Rattle.machine.specs.Events.{Event}
-use Rattle.machine.specs.Lives.{Meaning, Worked, Leads, Handheld}
+use Rattle.machine.specs.Lives.{Meaning, Worked, Leads}
 use Rattle.rounds.specs.Handhelds.{StaysHandheld}
 
 module _ {B : Type 0} (M : Meaning B) (b' : B) (e : Event) where

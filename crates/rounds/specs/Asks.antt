@@ -1,5 +1,5 @@
 -- Which call of the machine is asked. Assumes nothing.
-use Rattle.std.specs.Prelude.{List, [], ◌∷◌}
+use Rattle.std.specs.Prelude.{List, []}
 use Rattle.names.specs.Names.{Bytes}
 use Rattle.decks.specs.Model.{Deck}
 use Rattle.machine.specs.Call.{Call, new, start, press, target, arrive, give_up, follow, type, show, fill, value, address}

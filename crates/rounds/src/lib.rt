@@ -1,5 +1,6 @@
 //! One call worked on a browser, and one on each of two: what nobody can learn of an earlier round by such calls.
 #![tactic(auto)]
+
 ghost use Rattle.std.specs.Prelude.{◌≡◌};
 ghost use Rattle.machine.specs.State.{fresh};
 ghost use Rattle.machine.specs.Lives.{Handheld};
