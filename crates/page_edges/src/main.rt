@@ -1,6 +1,7 @@
 //! Pages at their edges: the page of each card of a small deck is written into buffers of every length from 0
 //! on, full of dots before, and printed with a slash for each line feed.
 #![tactic(auto)]
+
 use address::Address;
 use anyhow::anyhow;
 use deck_text::Writer;
