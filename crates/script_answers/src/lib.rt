@@ -1,5 +1,6 @@
 //! How a script says what a browser answered: every number, length, label count and byte.
 #![tactic(auto)]
+
 use decks::Kind;
 use faults::{CallFault, Caller, Which};
 use page::Shown;

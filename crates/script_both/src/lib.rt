@@ -1,5 +1,6 @@
 //! One call on two handhelds at once, each over its own store and before its own shelf, and whether they answered alike.
 #![tactic(auto)]
+
 use browser::{LandedTicket, OutwardTicket, Step};
 use decks::Shelf;
 use rounds::{Ask, Reply, work_both};

@@ -1,5 +1,6 @@
 //! The commands on one handheld, whose name is left out.
 #![tactic(auto)]
+
 use decks::Shelf;
 use script_handheld::Handheld;
 use script_texts::DeskError;

@@ -1,5 +1,6 @@
 //! The desk: what a script has made so far; and a whole script, worked line by line.
 #![tactic(auto)]
+
 use examples::worked_examples;
 use script_rounds::Rounds;
 use script_shelves::Shelves;

@@ -1,5 +1,6 @@
 //! One handheld of a script: a browser over a store, and the ticket that lies with it.
 #![tactic(auto)]
+
 use browser::{Browser, LandedTicket, OutwardTicket, Step};
 use decks::Shelf;
 use faults::CallFault;

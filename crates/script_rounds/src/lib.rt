@@ -1,5 +1,6 @@
 //! The four handhelds of a script: A and B over packed runs, C and D over slot tables.
 #![tactic(auto)]
+
 use decks::Shelf;
 use packed::{MOST_MEMORY, PackedRun};
 use records::RecordShelf;

@@ -1,5 +1,6 @@
 //! The shelves that a script has made, of either kind, and the commands on them.
 #![tactic(auto)]
+
 use address::Address;
 use decks::{BindingView, CardView, Kind, Shelf, TaskView};
 use file_tables::{FileTables, frame_refusal};

@@ -1,5 +1,6 @@
 //! Where a script keeps a ticket between its lines.
 #![tactic(auto)]
+
 ghost use Rattle.script_tickets.specs.Unlanded.{Unlanded};
 
 use browser::{Browser, LandedTicket, OutwardTicket, Step};

@@ -1,5 +1,6 @@
 //! Works a script of commands on standard input, one a line: a whole shift, told on docs/script.md.
 #![tactic(auto)]
+
 use script_desk::work_script;
 
 fn main(rt: HostRuntime) -> anyhow::Result<()> {
