@@ -4,6 +4,7 @@
 //!     deckfile show FILE         its decks, or why it is refused: the cause, record and field
 //!     deckfile try TEXT          the file as hexadecimal, and then what it holds
 #![tactic(auto)]
+
 use anyhow::anyhow;
 use deck_text::Writer;
 use decks::{CardView, DeckView, Kind, Part, Run, Shelf, TaskView, assignment_of};
