@@ -1,6 +1,7 @@
 //! Judges a thousand damaged shelf files, as files and as records, and compares the numbers with
 //! those that an independent reader gave.
 #![tactic(auto)]
+
 use anyhow::anyhow;
 use file_tables::FileTables;
 use hex_text::bytes_of;
