@@ -1,6 +1,7 @@
 //! Judges files at the edges of every allowance, and asks two shelves with the same decks the same
 //! questions.
 #![tactic(auto)]
+
 use anyhow::anyhow;
 use decks::{BindingView, CardView, Kind, Part, Shelf, TaskView};
 use file_tables::FileTables;
