@@ -1,4 +1,4 @@
-//! Works a script of commands on standard input, one a line: a whole shift, told on docs/script.md.
+//! Works a script of commands on standard input, one a line: texts, addresses, stores and shelves, told on docs/script.md.
 #![tactic(auto)]
 
 use script_desk::work_script;
