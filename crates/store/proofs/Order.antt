@@ -1,7 +1,10 @@
 -- The order of names is an order, and equal bytes are equal. Assumes nothing.
-use Rattle.std.proofs.Common.{◌≡◌, true, false, [], ◌∷◌, refl, arith}
+use Rattle.std.proofs.Common.{◌≡◌, Bool, true, false, Some, [], ◌∷◌, refl, arith}
 use Rattle.std.specs.Str.{bytes_eq}
+use Rattle.std.specs.Cmp.Lexicographic.{slice_partial_cmp}
+use Rattle.std.specs.Ordering.{nat_cmp, is_lt, is_some_and}
 use Rattle.std.proofs.lemmas.Bool.Decides.{nat_tests}
+use Rattle.std.proofs.lemmas.Cmp.{same_from_slice_cmp_tested}
 use Rattle.names.specs.Names.{Bytes}
 use Rattle.store.specs.Order.{before}
 
@@ -50,3 +53,7 @@ before_trans [] (y ∷ ys) (z ∷ zs) e f = refl
 before_trans (x ∷ xs) [] c e f = grind arith
 before_trans (x ∷ xs) (y ∷ ys) [] e f = grind arith
 before_trans (x ∷ xs) (y ∷ ys) (z ∷ zs) e f = let h = before_trans xs ys zs in grind (arith, nat_tests)
+
+-- the library's `<` on slices is this order
+pub is-before : (a b : Bytes) (r : Bool) → r ≡ is_some_and is_lt (slice_partial_cmp (λ x y. Some (nat_cmp x y)) a b) → r ≡ before a b
+is-before = same_from_slice_cmp_tested nat_cmp is_lt before refl (λ _ _. refl) (λ _ _. refl) (λ x y xs ys o h. grind (arith, nat_tests))

@@ -75,28 +75,7 @@ pub trait Store {
 pub fn precedes(a: &[u8], b: &[u8]) -> bool
     ensures { result ≡ before a.now b.now }
 {
-    for (i, x) in a.iter().enumerate() {
-        if i >= b.len() {
-            return false;
-        }
-        if *x != b[i] {
-            return *x < b[i];
-        }
-    }
-    a.len() < b.len()
-}
-
-fn one_if_any(len: usize) -> usize
-    ensures { result ≡ one len }
-{
-    if len == 0 { 0 } else { 1 }
-}
-
-fn load_if_any(name: usize, len: usize) -> usize
-    requires { (name ≤ 16) × (len < 65536) }
-    ensures { result ≡ load name len }
-{
-    if len == 0 { 0 } else { name + len }
+    a < b
 }
 
 /// How many names are set, and how many bytes they and their values have.
@@ -107,6 +86,23 @@ pub struct Totals {
 }
 
 impl Totals {
+    /// What a pair adds to the totals, by the lengths of its name and its value: nothing where the value is empty.
+    fn of_pair(name: usize, value: usize) -> Totals
+        requires name { name ≤ 16 }
+        requires value { value < 65536 }
+        ensures names { result.names ≡ one value }
+        ensures bytes { result.bytes ≡ load name value }
+    {
+        if value == 0 {
+            Totals { names: 0, bytes: 0 }
+        } else {
+            Totals {
+                names: 1,
+                bytes: name + value,
+            }
+        }
+    }
+
     /// The totals after a name's value of the old length gave way to one of the new length.
     pub fn after(self, name: usize, old: usize, new: usize) -> Totals
         requires name { name ≤ 16 }
@@ -119,9 +115,12 @@ impl Totals {
         ensures names { result.names ≡ (self.names - one old) + one new }
         ensures bytes { result.bytes ≡ (self.bytes - load name old) + load name new }
     {
-        let names = self.names - one_if_any(old) + one_if_any(new);
-        let bytes = self.bytes - load_if_any(name, old) + load_if_any(name, new);
-        Totals { names, bytes }
+        let out = Totals::of_pair(name, old);
+        let into = Totals::of_pair(name, new);
+        Totals {
+            names: self.names - out.names + into.names,
+            bytes: self.bytes - out.bytes + into.bytes,
+        }
     }
 
     /// Whether neither limit is exceeded.
