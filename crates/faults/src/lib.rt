@@ -15,6 +15,8 @@ use decks::Kind;
 use store::Refusal;
 use text::TextFault;
 
+mod words;
+
 /// Which text is broken: a card's body, the host's own, the address text of a task, or the name text or value text of
 /// its assignment k, counted from 0.
 #[derive(Clone, Copy)]
@@ -195,6 +197,7 @@ impl From<Refusal> for CallFault {
 
 impl CallFault {
     /// The fault by its number.
+    #[tactic(auto, using(crate::proofs::Back::nothing_forgotten))]
     pub fn number(self) -> u8
         ensures number { result ≡ reason_number (reason self) }
         ensures whole { NothingForgotten }
