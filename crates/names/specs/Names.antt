@@ -1,5 +1,6 @@
 -- Names of variables, and the pairs that can be stored. Assumes nothing.
-use Rattle.std.specs.Prelude.{ℕ, Bool, true, false, ◌&&◌, ◌||◌, List, [], ◌∷◌, length, ◌==◌, nat_le}
+use Rattle.std.specs.Prelude.{ℕ, Bool, false, ◌&&◌, ◌||◌, List, [], ◌∷◌, length, ◌==◌, nat_le}
+use Rattle.std.specs.List.{list_all}
 
 -- text is bytes, any bytes
 abbrev pub Bytes : Type 0
@@ -26,8 +27,7 @@ abbrev pub continues_name : ℕ → Bool
 continues_name b = starts_name b || is_digit b
 
 abbrev pub all_continue : Bytes → Bool
-all_continue [] = true
-all_continue (b ∷ bs) = continues_name b && all_continue bs
+all_continue bs = list_all continues_name bs
 
 abbrev pub is_name : Bytes → Bool
 is_name [] = false

@@ -30,12 +30,7 @@ pub fn continues_name(b: u8) -> bool
 fn all_continue(bytes: &[u8]) -> bool
     ensures { result ≡ all_continue bytes.now }
 {
-    for b in bytes {
-        if !continues_name(*b) {
-            return false;
-        }
-    }
-    true
+    bytes.iter().all(|b| continues_name(*b))
 }
 
 /// Whether the bytes are a name, of any length.
