@@ -4,17 +4,18 @@ use Rattle.faults.specs.declared.CallFault.{CallFault}
 use Rattle.faults.specs.Told.{reason}
 use Rattle.machine.specs.Answer.{Answer, done, standing, outward_ticket, landed_ticket, wrote, page, declined}
 use Rattle.page.specs.declared.Shown.{Shown}
-use Rattle.browser.specs.declared.ticket.OutwardTicket.{OutwardTicket}
+use Rattle.browser.specs.declared.ticket.Ticket.{Ticket}
+use Rattle.browser.specs.declared.ticket.Outward.{Outward}
 use Rattle.browser.specs.declared.ticket.Step.{Step}
 use Rattle.browser.specs.declared.ticket.Step.TheVariants as steps
 
 -- an outward ticket, by its number
-abbrev pub ticket_answer : Result OutwardTicket CallFault → Answer
+abbrev pub ticket_answer : Result (Ticket Outward) CallFault → Answer
 ticket_answer (Ok t) = outward_ticket t.number
 ticket_answer (Err f) = declined (reason f)
 
 -- a ticket that is handed out is not spent
-abbrev pub Unspent : Result OutwardTicket CallFault → Type 0
+abbrev pub Unspent : Result (Ticket Outward) CallFault → Type 0
 Unspent (Ok t) = t.spent ≡ false
 Unspent (Err f) = Unit {0}
 

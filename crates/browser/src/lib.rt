@@ -22,7 +22,7 @@ mod reading;
 mod tasking;
 mod ticket;
 
-pub use ticket::{LandedTicket, OutwardTicket, Step};
+pub use ticket::{Landed, LandedTicket, Outward, OutwardTicket, Step, Ticket};
 
 /// A browser over a store.
 #[derive(Drop)]

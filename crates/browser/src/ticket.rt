@@ -1,71 +1,49 @@
-//! Tickets: two moved types, each of which is let go only once it is spent. Only a browser makes one.
+//! Tickets: of two types that do not mix, each let go only once it is spent. Only a browser makes one.
 ghost use Rattle.std.specs.Prelude.{◌≡◌, true, false};
 
-/// What a setting out answers: it arrives or is given up, and until then it can be asked its target.
-pub struct OutwardTicket {
+use std::marker::PhantomData;
+
+/// Of a setting out: it arrives or is given up, and until then it can be asked its target.
+pub struct Outward;
+
+/// Of an arrival at a card with an enter task: it is followed.
+pub struct Landed;
+
+/// A ticket of a kind, by its number.
+pub struct Ticket<K> {
     pub(crate) number: u8,
     pub(crate) spent: bool,
+    kind: PhantomData<K>,
 }
 
-impl Drop for OutwardTicket {
+/// What a setting out answers.
+pub type OutwardTicket = Ticket<Outward>;
+
+/// What an arrival that is to be followed answers.
+pub type LandedTicket = Ticket<Landed>;
+
+impl<K> Drop for Ticket<K> {
     fn drop(self)
         requires { self.spent ≡ true }
     {
-        let OutwardTicket {
+        let Ticket {
             number: _,
             spent: _,
+            kind: _,
         } = self;
     }
 }
 
-impl OutwardTicket {
+impl<K> Ticket<K> {
     /// A ticket of this number, not spent yet.
-    pub(crate) fn issue(number: u8) -> OutwardTicket
+    pub(crate) fn issue(number: u8) -> Ticket<K>
         ensures number { result.number ≡ number }
         ensures fresh { result.spent ≡ false }
     {
-        OutwardTicket {
+        Ticket {
             number,
             spent: false,
-        }
-    }
-
-    /// Spends the ticket, and answers its number.
-    pub(crate) fn spend(self) -> u8
-        ensures { result ≡ self.number }
-    {
-        let mut ticket = self;
-        ticket.spent = true;
-        ticket.number
-    }
-}
-
-/// What a card with an enter task answers to an arrival: it is followed.
-pub struct LandedTicket {
-    pub(crate) number: u8,
-    pub(crate) spent: bool,
-}
-
-impl Drop for LandedTicket {
-    fn drop(self)
-        requires { self.spent ≡ true }
-    {
-        let LandedTicket {
-            number: _,
-            spent: _,
-        } = self;
-    }
-}
-
-impl LandedTicket {
-    /// A ticket of this number, not spent yet.
-    pub(crate) fn issue(number: u8) -> LandedTicket
-        ensures number { result.number ≡ number }
-        ensures fresh { result.spent ≡ false }
-    {
-        LandedTicket {
-            number,
-            spent: false,
+            kind: PhantomData,
         }
     }
 

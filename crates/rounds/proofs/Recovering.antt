@@ -5,8 +5,8 @@ use Rattle.faults.specs.declared.CallFault.TheVariants.{Busy}
 use Rattle.faults.proofs.Back.{back, comes_back}
 use Rattle.machine.specs.Answer.{Answer, Reason, done, standing, outward_ticket, landed_ticket, wrote, page, declined}
 use Rattle.page.specs.declared.Shown.{Shown}
-use Rattle.browser.specs.declared.ticket.OutwardTicket.{OutwardTicket}
-use Rattle.browser.specs.declared.ticket.LandedTicket.{LandedTicket}
+use Rattle.browser.specs.declared.ticket.Ticket.{Ticket}
+use Rattle.browser.specs.declared.ticket.Outward.{Outward}
 use Rattle.browser.specs.declared.ticket.Step.{Step}
 use Rattle.browser.specs.declared.ticket.Step.TheVariants as steps
 use Rattle.browser.specs.Answers.{ticket_answer, Unspent, done_answer, length_answer, shown_answer, step_answer, StepUnspent}
@@ -25,12 +25,9 @@ by_case d s o l w p f (wrote n) = w n
 by_case d s o l w p f (page n k) = p n k
 by_case d s o l w p f (declined r) = f r
 
--- tickets of a number
-abbrev outward_of : ℕ → Bool → OutwardTicket
-outward_of n s = record { number = n; spent = s }
-
-abbrev landed_of : ℕ → Bool → LandedTicket
-landed_of n s = record { number = n; spent = s }
+-- a ticket of a number
+abbrev ticket_of : {K : Type 0} → ℕ → Bool → Ticket K
+ticket_of n s = record { number = n; spent = s; kind = record {} }
 
 abbrev shown_of : ℕ → ℕ → Shown
 shown_of n k = record { len = n; labels = k }
@@ -42,8 +39,8 @@ else = Err Busy
 abbrev refused : {X : Type 0} → Reason → Result X CallFault
 refused r = Err (back r)
 
-abbrev ticket_back : Answer → Result OutwardTicket CallFault
-ticket_back = by_case else else (λ n. Ok (outward_of n false)) (λ n. else) (λ n. else) (λ n k. else) refused
+abbrev ticket_back : Answer → Result (Ticket Outward) CallFault
+ticket_back = by_case else else (λ n. Ok (ticket_of n false)) (λ n. else) (λ n. else) (λ n k. else) refused
 
 abbrev done_back : Answer → Result Unit CallFault
 done_back = by_case (Ok tt) else (λ n. else) (λ n. else) (λ n. else) (λ n k. else) refused
@@ -55,13 +52,13 @@ abbrev page_back : Answer → Result Shown CallFault
 page_back = by_case else else (λ n. else) (λ n. else) (λ n. else) (λ n k. Ok (shown_of n k)) refused
 
 abbrev step_back : Answer → Result Step CallFault
-step_back = by_case else (Ok steps.Standing) (λ n. Ok (steps.Outward (outward_of n false))) (λ n. Ok (steps.Landed (landed_of n false))) (λ n. else) (λ n k. else) refused
+step_back = by_case else (Ok steps.Standing) (λ n. Ok (steps.Outward (ticket_of n false))) (λ n. Ok (steps.Landed (ticket_of n false))) (λ n. else) (λ n k. else) refused
 
 abbrev reply_back : Answer → Reply
-reply_back = by_case replies.Done replies.Standing (λ n. replies.Outward (outward_of n false)) (λ n. replies.Landed (landed_of n false)) replies.Wrote (λ n k. replies.Page (shown_of n k)) (λ r. replies.Declined (back r))
+reply_back = by_case replies.Done replies.Standing (λ n. replies.Outward (ticket_of n false)) (λ n. replies.Landed (ticket_of n false)) replies.Wrote (λ n k. replies.Page (shown_of n k)) (λ r. replies.Declined (back r))
 
-ticket-back : (x : Result OutwardTicket CallFault) → Unspent x → ticket_back (ticket_answer x) ≡ x
-ticket-back (Ok t) u = ap (λ (s : Bool). Ok (outward_of t.number s)) (sym u)
+ticket-back : (x : Result (Ticket Outward) CallFault) → Unspent x → ticket_back (ticket_answer x) ≡ x
+ticket-back (Ok t) u = ap (λ (s : Bool). Ok (ticket_of t.number s)) (sym u)
 ticket-back (Err f) u = ap (λ (z : CallFault). Err z) (comes_back f)
 
 done-back : (x : Result Unit CallFault) → done_back (done_answer x) ≡ x
@@ -78,15 +75,15 @@ page-back (Err f) = ap (λ (z : CallFault). Err z) (comes_back f)
 
 step_back_lem : (x : Result Step CallFault) → StepUnspent x → step_back (step_answer x) ≡ x
 step_back_lem (Ok steps.Standing) u = refl
-step_back_lem (Ok (steps.Outward t)) u = ap (λ (s : Bool). Ok (steps.Outward (outward_of t.number s))) (sym u)
-step_back_lem (Ok (steps.Landed t)) u = ap (λ (s : Bool). Ok (steps.Landed (landed_of t.number s))) (sym u)
+step_back_lem (Ok (steps.Outward t)) u = ap (λ (s : Bool). Ok (steps.Outward (ticket_of t.number s))) (sym u)
+step_back_lem (Ok (steps.Landed t)) u = ap (λ (s : Bool). Ok (steps.Landed (ticket_of t.number s))) (sym u)
 step_back_lem (Err f) u = ap (λ (z : CallFault). Err z) (comes_back f)
 
 reply-back : (x : Reply) → UnspentReply x → reply_back (answer_of x) ≡ x
 reply-back replies.Done u = refl
 reply-back replies.Standing u = refl
-reply-back (replies.Outward t) u = ap (λ (s : Bool). replies.Outward (outward_of t.number s)) (sym u)
-reply-back (replies.Landed t) u = ap (λ (s : Bool). replies.Landed (landed_of t.number s)) (sym u)
+reply-back (replies.Outward t) u = ap (λ (s : Bool). replies.Outward (ticket_of t.number s)) (sym u)
+reply-back (replies.Landed t) u = ap (λ (s : Bool). replies.Landed (ticket_of t.number s)) (sym u)
 reply-back (replies.Wrote n) u = refl
 reply-back (replies.Page s) u = refl
 reply-back (replies.Declined f) u = ap replies.Declined (comes_back f)
