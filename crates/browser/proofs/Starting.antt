@@ -2,7 +2,7 @@
 use Rattle.std.proofs.Common.{◌≡◌, ℕ, true, false, [], is_err, IsErrAnd, Ok, Err, Result, refl, ap, arith}
 use Rattle.names.specs.Names.{Bytes}
 use Rattle.address.specs.Address.{lawful}
-use Rattle.machine.specs.declared.Way.TheVariants.{Forward}
+use Rattle.decks.specs.declared.Way.TheVariants.{Forward}
 use Rattle.machine.specs.State as machine
 use Rattle.machine.specs.Tickets.{is_free}
 use Rattle.machine.specs.Answer.{numbered, outward_ticket, declined, tells}

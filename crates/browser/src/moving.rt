@@ -6,7 +6,7 @@ ghost use Rattle.history.specs.Kept.{kept};
 ghost use Rattle.places.specs.Places.{place_of};
 ghost use Rattle.machine.specs.Answer.{tells};
 ghost use Rattle.machine.specs.Call.{arrive};
-ghost use Rattle.machine.specs.Going.{moved, is_forward, begins_anew, enter_with, arrive_at};
+ghost use Rattle.machine.specs.Going.{moved, begins_anew, enter_with, arrive_at};
 ghost use Rattle.machine.specs.Lives.{Worked};
 ghost use Rattle.errands.specs.Meaning.{trip_of};
 ghost use Rattle.browser.specs.Meaning.{state_of, over};
@@ -22,16 +22,6 @@ use history::History;
 use machine::Way;
 use places::{Place, find_place};
 use store::Store;
-
-/// Whether the way is forward.
-pub(crate) fn is_forward(way: Way) -> bool
-    ensures { result ≡ is_forward way }
-{
-    match way {
-        Way::Forward => true,
-        Way::Backward => false,
-    }
-}
 
 /// A go adds its address to the history, a prev removes the newest.
 fn travel(history: &mut History, trip: &Trip)
@@ -61,7 +51,7 @@ impl<S: Store> Browser<S> {
         ensures unspent { UnspentStep result }
     {
         travel(&mut self.history, trip);
-        match enter_task(&place.deck, &place.card, is_forward(trip.way)) {
+        match enter_task(&place.deck, &place.card, trip.way) {
             Some(_) => {
                 self.errand = Errand::Landed(trip.way);
                 Step::Landed(LandedTicket::issue(self.number))

@@ -14,7 +14,6 @@ ghost use Rattle.browser.specs.Calls.{before};
 ghost use Rattle.browser.specs.Answers.{step_answer, StepUnspent};
 
 use super::Browser;
-use crate::moving::is_forward;
 use crate::ticket::{LandedTicket, OutwardTicket, Step};
 use address::Address;
 use decks::{Shelf, TaskView};
@@ -91,7 +90,7 @@ impl<S: Store> Browser<S> {
         let Some(place) = find_place(shelf, &current) else {
             return Err(CallFault::DeckGone);
         };
-        let Some(task) = entered_task(shelf, &place, is_forward(way)) else {
+        let Some(task) = entered_task(shelf, &place, way) else {
             return Ok(Step::Standing);
         };
         self.work_task(shelf, &current, &task, Caller::Follow)

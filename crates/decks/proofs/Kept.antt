@@ -3,6 +3,8 @@ use Rattle.std.proofs.Common.{◌≡◌, ℕ, zero, suc, Bool, true, false, cond
 use Rattle.std.specs.List.{slice_get, AllByRecursion}
 use Rattle.std.specs.Str.{bytes_eq}
 use Rattle.std.proofs.ByRecursion.{All-append}
+use Rattle.decks.specs.declared.Way.{Way}
+use Rattle.decks.specs.declared.Way.TheVariants.{Forward, Backward}
 use Rattle.decks.specs.Model.{Binding, Card, Deck, first, else-other, head, named, card_at, enter_of, has, actives, offers, active, pressed}
 use Rattle.decks.specs.Allowances.{TaskAllowed, BindingAllowed, CardAllowed, DeckAllowed, PerhapsAllowed}
 
@@ -41,9 +43,9 @@ pub card-kept : (cs : List Card) (f : List ℕ) → AllByRecursion CardAllowed c
 card-kept cs f h = other-kept CardAllowed (named cs f) (head cs) (named-kept cs f h) (head-kept CardAllowed cs h)
 
 -- the enter task
-pub enter-kept : (d : Deck) (c : Card) (way : Bool) → DeckAllowed d → CardAllowed c → PerhapsAllowed (enter_of d c way)
-enter-kept d c true h k = other-kept TaskAllowed c.forward d.forward k.forward h.forward
-enter-kept d c false h k = other-kept TaskAllowed c.backward d.backward k.backward h.backward
+pub enter-kept : (d : Deck) (c : Card) (way : Way) → DeckAllowed d → CardAllowed c → PerhapsAllowed (enter_of d c way)
+enter-kept d c Forward h k = other-kept TaskAllowed c.forward d.forward k.forward h.forward
+enter-kept d c Backward h k = other-kept TaskAllowed c.backward d.backward k.backward h.backward
 
 picked : (b : Bool) (x : Binding) (xs : List Binding) → BindingAllowed x → AllByRecursion BindingAllowed xs → AllByRecursion BindingAllowed (cond b xs (x ∷ xs))
 picked true x xs h k = k

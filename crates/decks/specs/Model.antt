@@ -2,6 +2,8 @@
 use Rattle.std.specs.Prelude.{ℕ, Bool, false, cond, ◌||◌, List, [], ◌∷◌, ◌++◌, take, drop, Some, None, Option}
 use Rattle.std.specs.Str.{bytes_eq}
 use Rattle.decks.specs.declared.Kind.{Kind}
+use Rattle.decks.specs.declared.Way.{Way}
+use Rattle.decks.specs.declared.Way.TheVariants.{Forward, Backward}
 
 -- a variable is to be set: both texts are filled first
 pub record Assignment : Type 0 where
@@ -69,9 +71,10 @@ named cs (b ∷ f) = with_id cs (b ∷ f)
 abbrev pub card_at : List Card → List ℕ → Option Card
 card_at cs f = else-other (named cs f) (head cs)
 
--- the enter task, forward where the flag is true, else backward: the card's own, else the template's, else none
-abbrev pub enter_of : Deck → Card → Bool → Option Task
-enter_of d c way = cond way (else-other c.forward d.forward) (else-other c.backward d.backward)
+-- the enter task of a way: the card's own, else the template's, else none
+abbrev pub enter_of : Deck → Card → Way → Option Task
+enter_of d c Forward = else-other c.forward d.forward
+enter_of d c Backward = else-other c.backward d.backward
 
 -- some binding has the name
 abbrev pub has : List Binding → List ℕ → Bool

@@ -17,12 +17,19 @@ ghost use Rattle.decks.specs.Walk.{Walks, StandsBefore};
 
 /// What a task does: nothing, set out for its address, set out for the address before, or set
 /// variables and stand.
-#[derive(Clone, Copy)]
+#[derive(Clone, Copy, PartialEq, Eq, Debug)]
 pub enum Kind {
     Noop,
     Go,
     Prev,
     Refresh,
+}
+
+/// The way to a card: forward by a go, backward by a prev.
+#[derive(Clone, Copy, PartialEq, Eq, Debug)]
+pub enum Way {
+    Forward,
+    Backward,
 }
 
 /// A text: a part of the shelf's memory, with its place there.
@@ -197,13 +204,12 @@ pub fn find_card<'a, S: Shelf>(
 }
 
 /// The number of the enter task: the card's own, else the template's, else none.
-pub fn enter_task(deck: &DeckView, card: &CardView, forward: bool) -> Option<u16>
-    ensures { (n : Numbered) → opt n.tasks result ≡ enter_of (deck_of n deck.now) (card_of n card.now) forward }
+pub fn enter_task(deck: &DeckView, card: &CardView, way: Way) -> Option<u16>
+    ensures { (n : Numbered) → opt n.tasks result ≡ enter_of (deck_of n deck.now) (card_of n card.now) way }
 {
-    let (own, template) = if forward {
-        (card.forward, deck.forward)
-    } else {
-        (card.backward, deck.backward)
+    let (own, template) = match way {
+        Way::Forward => (card.forward, deck.forward),
+        Way::Backward => (card.backward, deck.backward),
     };
     if let Some(t) = own {
         Some(t)

@@ -3,7 +3,7 @@
 
 ghost use Rattle.std.specs.Prelude.{◌≡◌, true, false, [], MatchResult};
 ghost use Rattle.address.specs.Address.{lawful};
-ghost use Rattle.machine.specs.declared.Way.TheVariants.{Forward};
+ghost use Rattle.decks.specs.declared.Way.TheVariants.{Forward};
 ghost use Rattle.errands.specs.Deciding.{decided};
 ghost use Rattle.errands.specs.Meaning.{trip_of};
 

@@ -7,7 +7,7 @@ use Rattle.store.specs.Limits.{Limits, within, verdict}
 use Rattle.text.specs.Fill.{broken_at}
 use Rattle.address.specs.Address.{lawful}
 use Rattle.decks.specs.Model.{Deck, Task, enter_of, pressed}
-use Rattle.machine.specs.declared.Way.{Way}
+use Rattle.decks.specs.declared.Way.{Way}
 use Rattle.machine.specs.State.{Errand, none, out, landed, State, ended}
 use Rattle.machine.specs.Call.{Verb, new, start, press, target, arrive, give_up, follow, type, show, fill, value, address, Call}
 use Rattle.machine.specs.Answer.{Which, the_body, hosts_text, Caller, by_press, by_follow, by_show, by_fill, broken_text, declined, Outcome, tells, need}
@@ -16,7 +16,7 @@ use Rattle.machine.specs.Place.{place_at, newest}
 use Rattle.assignments.specs.Joint.{put_all}
 use Rattle.machine.specs.Assigning.{broken, too_long, unlawful, no_room, plain}
 use Rattle.machine.specs.Taking.{Taken, stands, sets_out, faulty, take_task}
-use Rattle.machine.specs.Going.{settle, enter, begins_anew, is_forward}
+use Rattle.machine.specs.Going.{settle, enter, begins_anew}
 use Rattle.machine.specs.Asking.{buffer, copy_out, whole, typed}
 use Rattle.machine.specs.Step.{works, step}
 use Rattle.machine.specs.Events.{event}
@@ -134,8 +134,8 @@ module _ (L : Limits) (ds : List Deck) (bs : List Bytes) where
       let P : Outcome → Type 0 = λ x. Does (call (arrive t)) s x x' in
       need₁ P (outward t n e) (refl, refl) λ o.
       need₁ P (place_at ds o.target) (refl, refl) λ p.
-      let in-by : (u : State) → P (enter o.way u bs (enter_of p.deck p.card (is_forward o.way))) =
-      λ u. entered s t o.way u (enter_of p.deck p.card (is_forward o.way)) x' in
+      let in-by : (u : State) → P (enter o.way u bs (enter_of p.deck p.card o.way)) =
+      λ u. entered s t o.way u (enter_of p.deck p.card o.way) x' in
       cond₁ P (begins_anew o.way p.card) (in-by _) (cond₁ P (within L (put_all vs o.pairs)) (in-by _) (refl, refl))
 
   followed : (n : ℕ) (vs : Vars) (h : List Bytes) (w : Way) (t : ℕ) (x' : Outcome) (k : Taken) →
@@ -157,7 +157,7 @@ module _ (L : Limits) (ds : List Deck) (bs : List Bytes) where
       need₁ P (landing t n (landed w)) (refl, refl) λ v.
       need₁ P (newest h) (refl, refl, λ z. z) λ a.
       need₁ P (place_at ds a) (refl, refl, λ z. z) λ p.
-      need₁ P (enter_of p.deck p.card (is_forward v)) (λ z. absurd z) λ k.
+      need₁ P (enter_of p.deck p.card v) (λ z. absurd z) λ k.
       followed n vs h w t x' (take_task L s a k)
 
   -- type, and the calls that only read

@@ -6,7 +6,7 @@ use Rattle.store.specs.Vars.{Vars}
 use Rattle.store.specs.Limits.{Limits, within}
 use Rattle.address.specs.Address.{lawful}
 use Rattle.decks.specs.Model.{Deck}
-use Rattle.machine.specs.declared.Way.TheVariants.{Forward}
+use Rattle.decks.specs.declared.Way.TheVariants.{Forward}
 use Rattle.machine.specs.State.{Pairs, Trip, Errand, out, State, fresh, ended}
 use Rattle.machine.specs.Call.{Verb, new, start, arrive, Call}
 use Rattle.machine.specs.Answer.{outward_ticket, Outcome, tells, refuse, need}

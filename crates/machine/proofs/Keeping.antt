@@ -13,8 +13,8 @@ use Rattle.address.specs.Resolve.{resolve, checked, if_lawful}
 use Rattle.decks.specs.declared.Kind.{Kind}
 use Rattle.decks.specs.declared.Kind.TheVariants.{Noop, Go, Prev, Refresh}
 use Rattle.decks.specs.Model.{Deck, Task, enter_of, pressed}
-use Rattle.machine.specs.declared.Way.{Way}
-use Rattle.machine.specs.declared.Way.TheVariants.{Forward, Backward}
+use Rattle.decks.specs.declared.Way.{Way}
+use Rattle.decks.specs.declared.Way.TheVariants.{Forward, Backward}
 use Rattle.machine.specs.State.{Pairs, Errand, none, out, landed, State, fresh, ended}
 use Rattle.machine.specs.Call.{Verb, new, start, press, target, arrive, give_up, follow, type, show, fill, value, address, Call}
 use Rattle.machine.specs.Answer.{Which, Caller, by_press, by_follow, Answer, Outcome, need}
@@ -23,7 +23,7 @@ use Rattle.machine.specs.Place.{Place, place_at, second, newest}
 use Rattle.assignments.specs.Joint.{put_all}
 use Rattle.machine.specs.Assigning.{TaskFault, no_room, plain}
 use Rattle.machine.specs.Taking.{Taken, stands, sets_out, faulty, unless, leads_to, leads_back, fault_in, pairs_in, take_kind, take_task}
-use Rattle.machine.specs.Going.{settle, moved, is_forward, enter, arrive_at}
+use Rattle.machine.specs.Going.{settle, moved, enter, arrive_at}
 use Rattle.machine.specs.Asking.{buffer, copy_out, whole, typed}
 use Rattle.machine.specs.Step.{works, step}
 use Rattle.machine.specs.Events.{Event}
@@ -144,7 +144,7 @@ module _ (L : Limits) where
       Stays (arrive_at L s bs (record { way = w; target = a; pairs = ps }) p)
   arrive-sound s bs Forward a ps p S t b =
       let vs = put_all s.vars ps in
-      let k = enter_of p.deck p.card true in
+      let k = enter_of p.deck p.card Forward in
       cond₁ Stays p.card.newcontext
       (enter-sound Forward s.number [] (moved Forward a []) bs k (moves Forward a [] (omega arith) tt t tt) none_within)
       (cond_both (within L vs) _ _ Stays
@@ -153,7 +153,7 @@ module _ (L : Limits) where
   arrive-sound s bs Backward a ps p S t b =
       let vs = put_all s.vars ps in
       cond_both (within L vs) _ _ Stays
-      (λ r. enter-sound Backward s.number vs (moved Backward a s.history) bs (enter_of p.deck p.card false)
+      (λ r. enter-sound Backward s.number vs (moved Backward a s.history) bs (enter_of p.deck p.card Backward)
       (moves Backward a s.history S.few S.lawfully t b) r)
       (λ _. over s S)
 
@@ -205,7 +205,7 @@ module _ (L : Limits) where
         need₁ Stays (landing t s.number s.errand) S λ w.
         need₁ Stays (newest s.history) (over s S) λ a.
         need₁ Stays (place_at ds a) (over s S) λ p.
-        need₁ Stays (enter_of p.deck p.card (is_forward w)) (over s S) λ k.
+        need₁ Stays (enter_of p.deck p.card w) (over s S) λ k.
         settle-sound by_follow s bs (take_task L s a k) S (take-sound s a k k.kind S)
 
     on-type : (s : State) (m w : Bytes) → Sound L s → Stays (works L s ds bs (type m w))

@@ -1,12 +1,12 @@
 -- Start, press, arrive, give up and follow: the calls that begin, end or carry on an errand. Assumes nothing.
-use Rattle.std.specs.Prelude.{ℕ, Bool, true, false, cond, List, [], ◌∷◌, take, drop, Some, None, Option}
+use Rattle.std.specs.Prelude.{ℕ, Bool, false, cond, List, [], ◌∷◌, take, drop, Some, None, Option}
 use Rattle.names.specs.Names.{Bytes}
 use Rattle.store.specs.Vars.{Vars}
 use Rattle.store.specs.Limits.{Limits, within}
 use Rattle.address.specs.Address.{lawful}
 use Rattle.decks.specs.Model.{Deck, Card, Task, enter_of, pressed}
-use Rattle.machine.specs.declared.Way.{Way}
-use Rattle.machine.specs.declared.Way.TheVariants.{Forward, Backward}
+use Rattle.decks.specs.declared.Way.{Way}
+use Rattle.decks.specs.declared.Way.TheVariants.{Forward, Backward}
 use Rattle.machine.specs.State.{Trip, none, out, landed, State, with_errand, ended, with_vars}
 use Rattle.machine.specs.Tickets.{is_free, outward, landing}
 use Rattle.machine.specs.Answer.{Caller, by_press, by_follow, Reason, numbered, broken_text, standing, outward_ticket, landed_ticket, done, declined, Outcome, tells, refuse, need, given}
@@ -54,11 +54,6 @@ abbrev pub moved : Way → Bytes → List Bytes → List Bytes
 moved Forward a h = a ∷ take 15 h
 moved Backward a h = drop 1 h
 
--- the way as a flag, true for forward
-abbrev pub is_forward : Way → Bool
-is_forward Forward = true
-is_forward Backward = false
-
 -- a card with an enter task answers a landed ticket, any other stands
 abbrev pub enter : Way → State → List Bytes → Option Task → Outcome
 enter w s bs None = tells s standing bs
@@ -68,7 +63,7 @@ enter w s bs (Some t) = tells (with_errand (landed w) s) (landed_ticket s.number
 abbrev pub enter_with : State → List Bytes → Trip → Place → Vars → List Bytes → Outcome
 enter_with s bs o p vs h =
     enter o.way (record { number = s.number; vars = vs; history = moved o.way o.target h; errand = none }) bs
-    (enter_of p.deck p.card (is_forward o.way))
+    (enter_of p.deck p.card o.way)
 
 -- on a go to a newcontext card variables and history are cleared and no assignment is made; otherwise the assignments are made, or 24
 abbrev pub arrive_at : Limits → State → List Bytes → Trip → Place → Outcome
@@ -94,5 +89,5 @@ call_follow L s ds bs t =
     need (landing t s.number s.errand) (refuse s 33 bs) λ w.
     need (newest s.history) (refuse (ended s) 34 bs) λ a.
     need (place_at ds a) (refuse (ended s) 34 bs) λ p.
-    need (enter_of p.deck p.card (is_forward w)) (tells (ended s) standing bs) λ k.
+    need (enter_of p.deck p.card w) (tells (ended s) standing bs) λ k.
     settle by_follow s bs (take_task L s a k)

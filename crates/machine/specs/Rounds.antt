@@ -2,7 +2,7 @@
 use Rattle.std.specs.Prelude.{◌≡◌, ℕ, Bool, true, false, List, [], ◌∷◌, length, drop, Some, None, Option}
 use Rattle.names.specs.Names.{Bytes}
 use Rattle.store.specs.Limits.{Limits}
-use Rattle.machine.specs.declared.Way.TheVariants.{Forward}
+use Rattle.decks.specs.declared.Way.TheVariants.{Forward}
 use Rattle.machine.specs.State.{Pairs, out, State, fresh}
 use Rattle.machine.specs.Call.{Call, new, start, arrive}
 use Rattle.machine.specs.Answer.{done}

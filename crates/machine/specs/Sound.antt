@@ -3,8 +3,8 @@ use Rattle.std.specs.Prelude.{◌≡◌, ◌≤◌, true, List, [], ◌∷◌, l
 use Rattle.names.specs.Names.{Bytes}
 use Rattle.store.specs.Limits.{Limits, within}
 use Rattle.address.specs.Address.{lawful}
-use Rattle.machine.specs.declared.Way.{Way}
-use Rattle.machine.specs.declared.Way.TheVariants.{Forward, Backward}
+use Rattle.decks.specs.declared.Way.{Way}
+use Rattle.decks.specs.declared.Way.TheVariants.{Forward, Backward}
 use Rattle.machine.specs.State.{Errand, none, out, landed, State}
 use Rattle.machine.specs.Place.{second}
 use Rattle.machine.specs.Lives.{Meaning, Handheld}

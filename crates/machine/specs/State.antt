@@ -2,7 +2,7 @@
 use Rattle.std.specs.Prelude.{ℕ, List, []}
 use Rattle.names.specs.Names.{Bytes}
 use Rattle.store.specs.Vars.{Vars}
-use Rattle.machine.specs.declared.Way.{Way}
+use Rattle.decks.specs.declared.Way.{Way}
 
 -- names with the values that they are to get
 abbrev pub Pairs : Type 0

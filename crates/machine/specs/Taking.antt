@@ -9,7 +9,7 @@ use Rattle.address.specs.Resolve.{resolve}
 use Rattle.decks.specs.declared.Kind.{Kind}
 use Rattle.decks.specs.declared.Kind.TheVariants.{Noop, Go, Prev, Refresh}
 use Rattle.decks.specs.Model.{Task, else-other}
-use Rattle.machine.specs.declared.Way.TheVariants.{Forward, Backward}
+use Rattle.decks.specs.declared.Way.TheVariants.{Forward, Backward}
 use Rattle.machine.specs.State.{Pairs, Trip, State}
 use Rattle.machine.specs.Answer.{the_address}
 use Rattle.machine.specs.Place.{second}

@@ -1,6 +1,6 @@
 -- When an errand is under way, and when a ticket counts. Assumes nothing.
 use Rattle.std.specs.Prelude.{ℕ, Bool, true, false, cond, Some, None, Option, ◌==◌}
-use Rattle.machine.specs.declared.Way.{Way}
+use Rattle.decks.specs.declared.Way.{Way}
 use Rattle.machine.specs.State.{Trip, Errand, none, out, landed}
 
 -- an errand is under way while it is out and while it has landed

@@ -10,12 +10,7 @@ ghost use Rattle.machine.specs.Happens.{RoundsHappen};
 ghost use Rattle.machine.specs.Corners.{Corners};
 ghost use Rattle.machine.specs.Examples.{MachineExamples};
 
-/// The way to a card: forward by a go, backward by a prev.
-#[derive(Clone, Copy)]
-pub enum Way {
-    Forward,
-    Backward,
-}
+pub use decks::Way;
 
 /// A kind of browser: each value of it means a state of the machine, and its store has limits.
 pub trait Machine {

@@ -7,7 +7,7 @@ use Rattle.store.specs.Vars.{Vars}
 use Rattle.store.specs.Limits.{Limits}
 use Rattle.address.specs.Address.{lawful}
 use Rattle.decks.specs.Model.{Deck}
-use Rattle.machine.specs.declared.Way.TheVariants.{Forward}
+use Rattle.decks.specs.declared.Way.TheVariants.{Forward}
 use Rattle.machine.specs.State.{Trip, Errand, none, out, landed, State, with_errand}
 use Rattle.machine.specs.Tickets.{is_free}
 use Rattle.machine.specs.Answer.{Answer, done, standing, outward_ticket, landed_ticket, wrote, page, declined, numbered, Reason, Outcome, tells, refuse, need}

@@ -1,7 +1,8 @@
 -- What is found at a place. Assumes nothing.
-use Rattle.std.proofs.Common.{◌≡◌, Bool, List, Some, None, Option, sym, ap, ◌∙◌, subst}
+use Rattle.std.proofs.Common.{◌≡◌, List, Some, None, Option, sym, ap, ◌∙◌, subst}
 use Rattle.names.specs.Names.{Bytes}
 use Rattle.address.specs.Address.{deck_of, fragment_of}
+use Rattle.decks.specs.declared.Way.{Way}
 use Rattle.decks.specs.Model.{Task, Binding, Card, Deck, deck_at, card_at, pressed, enter_of}
 use Rattle.decks.specs.Allowances.{TaskAllowed, BindingAllowed, CardAllowed, DeckAllowed}
 use Rattle.decks.proofs.Kept.{Held, card-kept, enter-kept, pressed-kept}
@@ -25,5 +26,5 @@ pub bound-allowed : (p : machine.Place) (n : Bytes) (b : Binding) → PlaceAllow
 bound-allowed p n b h e = (subst (Held BindingAllowed) (sym e) (pressed-kept p.deck p.card n h.deck h.card)).task
 
 -- and an enter task
-pub entry-allowed : (p : machine.Place) (w : Bool) (t : Task) → PlaceAllowed p → Some t ≡ enter_of p.deck p.card w → TaskAllowed t
+pub entry-allowed : (p : machine.Place) (w : Way) (t : Task) → PlaceAllowed p → Some t ≡ enter_of p.deck p.card w → TaskAllowed t
 entry-allowed p w t h e = subst (Held TaskAllowed) (sym e) (enter-kept p.deck p.card w h.deck h.card)

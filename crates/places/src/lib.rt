@@ -10,7 +10,9 @@ ghost use Rattle.machine.specs.Place.{place_at};
 ghost use Rattle.places.specs.Places.{place_of, PlaceAllowed, task_bound};
 
 use address::Address;
-use decks::{CardView, DeckView, Shelf, TaskView, enter_task, find_binding, find_card, find_deck};
+use decks::{
+    CardView, DeckView, Shelf, TaskView, Way, enter_task, find_binding, find_card, find_deck,
+};
 
 /// A deck with one card of it.
 #[derive(Clone, Copy)]
@@ -45,17 +47,13 @@ pub fn bound_task<'a, S: Shelf>(shelf: &'a S, place: &Place, name: &[u8]) -> Opt
     }
 }
 
-/// The task that entering the card takes, forward or backward, if there is one.
-pub fn entered_task<'a, S: Shelf>(
-    shelf: &'a S,
-    place: &Place,
-    forward: bool,
-) -> Option<TaskView<'a>>
+/// The task that entering the card by a way takes, if there is one.
+pub fn entered_task<'a, S: Shelf>(shelf: &'a S, place: &Place, way: Way) -> Option<TaskView<'a>>
     requires { PlaceAllowed (place_of (S.Shelf.parts shelf.now) place.now) }
-    ensures found { opt (task_of (S.Shelf.parts shelf.now)) result ≡ enter_of (deck_of (S.Shelf.parts shelf.now) place.now.deck) (card_of (S.Shelf.parts shelf.now) place.now.card) forward }
+    ensures found { opt (task_of (S.Shelf.parts shelf.now)) result ≡ enter_of (deck_of (S.Shelf.parts shelf.now) place.now.deck) (card_of (S.Shelf.parts shelf.now) place.now.card) way }
     ensures allowed { IfSome result (λ t. TaskAllowed (task_of (S.Shelf.parts shelf.now) t)) }
 {
-    match enter_task(&place.deck, &place.card, forward) {
+    match enter_task(&place.deck, &place.card, way) {
         Some(task) => Some(shelf.task(task)),
         None => None,
     }

@@ -1,6 +1,8 @@
 -- Which number an enter task has. Assumes nothing.
-use Rattle.std.proofs.Common.{◌≡◌, ℕ, Bool, true, false, List, [], ◌∷◌, Some, None, Option, sym, refl, ap, ◌∙◌}
+use Rattle.std.proofs.Common.{◌≡◌, ℕ, false, List, [], ◌∷◌, Some, None, Option, sym, refl, ap, ◌∙◌}
 use Rattle.decks.specs.declared.Kind.TheVariants.{Noop}
+use Rattle.decks.specs.declared.Way.{Way}
+use Rattle.decks.specs.declared.Way.TheVariants.{Forward, Backward}
 use Rattle.decks.specs.declared.DeckView.{DeckView}
 use Rattle.decks.specs.declared.CardView.{CardView}
 use Rattle.decks.specs.Model.{Task, else-other, enter_of}
@@ -34,6 +36,6 @@ other-opt f (Some x) b = refl
 chosen : (o a b : Option ℕ) → opt marked o ≡ else-other (opt marked a) (opt marked b) → o ≡ else-other a b
 chosen o a b e = sym (back o) ∙ ap (opt (λ (t : Task). told t.address)) (e ∙ other-opt marked a b) ∙ back (else-other a b)
 
-pub entered : (d : DeckView) (c : CardView) (way : Bool) (o : Option ℕ) → ((n : Numbered) → opt n.tasks o ≡ enter_of (deck_of n d) (card_of n c) way) → o ≡ enter_number d c way
-entered d c true o e = chosen o c.forward d.forward (e telling)
-entered d c false o e = chosen o c.backward d.backward (e telling)
+pub entered : (d : DeckView) (c : CardView) (way : Way) (o : Option ℕ) → ((n : Numbered) → opt n.tasks o ≡ enter_of (deck_of n d) (card_of n c) way) → o ≡ enter_number d c way
+entered d c Forward o e = chosen o c.forward d.forward (e telling)
+entered d c Backward o e = chosen o c.backward d.backward (e telling)

@@ -1,5 +1,6 @@
 -- What is answered to a walker's question, by decks alone. Assumes nothing.
-use Rattle.std.specs.Prelude.{ℕ, true, false, List, Some, None, Option}
+use Rattle.std.specs.Prelude.{ℕ, List, Some, None, Option}
+use Rattle.decks.specs.declared.Way.TheVariants.{Forward, Backward}
 use Rattle.decks.specs.Model.{Task, Binding, Card, Deck, deck_at, card_at, enter_of, pressed}
 use Rattle.decks.specs.Views.{Numbered, opt, deck_of, card_of, binding_of, task_of}
 use Rattle.questions.specs.declared.Answer.{Answer}
@@ -19,7 +20,7 @@ nothing = record { deck = None; card = None; forward = None; backward = None; bi
 -- at a card of a deck
 abbrev pub at_card : Deck → List ℕ → Option Card → Meant
 at_card d n None = record { deck = Some d; card = None; forward = None; backward = None; binding = None }
-at_card d n (Some c) = record { deck = Some d; card = Some c; forward = enter_of d c true; backward = enter_of d c false; binding = pressed d c n }
+at_card d n (Some c) = record { deck = Some d; card = Some c; forward = enter_of d c Forward; backward = enter_of d c Backward; binding = pressed d c n }
 
 -- at the card of a deck that a fragment means
 abbrev pub at_deck : List ℕ → List ℕ → Option Deck → Meant

@@ -9,7 +9,7 @@ ghost use Rattle.questions.specs.Answers.{answer_by, meant_by, at_card};
 ghost use Rattle.questions.specs.Handed.{AnswerLies, AnswerPlaced};
 
 use decks::{
-    BindingView, CardView, DeckView, Shelf, TaskView, enter_task, find_binding, find_card,
+    BindingView, CardView, DeckView, Shelf, TaskView, Way, enter_task, find_binding, find_card,
     find_deck,
 };
 
@@ -50,8 +50,8 @@ fn ask_card<'a, S: Shelf>(
     Answer {
         deck: Some(deck),
         card: Some(card),
-        forward: task_if(shelf, enter_task(&deck, &card, true)),
-        backward: task_if(shelf, enter_task(&deck, &card, false)),
+        forward: task_if(shelf, enter_task(&deck, &card, Way::Forward)),
+        backward: task_if(shelf, enter_task(&deck, &card, Way::Backward)),
         binding: find_binding(shelf, &deck, &card, name),
     }
 }

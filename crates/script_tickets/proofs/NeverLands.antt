@@ -4,14 +4,14 @@ use Rattle.std.proofs.lemmas.Bool.{false≢true}
 use Rattle.names.specs.Names.{Bytes}
 use Rattle.store.specs.Limits.{Limits}
 use Rattle.decks.specs.Model.{Deck, Task, enter_of}
-use Rattle.machine.specs.declared.Way.{Way}
+use Rattle.decks.specs.declared.Way.{Way}
 use Rattle.machine.specs.State.{State, ended}
 use Rattle.machine.specs.Answer.{Answer, done, standing, outward_ticket, landed_ticket, wrote, page, declined, Caller, by_follow, Outcome, tells, refuse, need}
 use Rattle.machine.specs.Call.{follow}
 use Rattle.machine.specs.Place.{Place, place_at, newest}
 use Rattle.machine.specs.Tickets.{landing}
 use Rattle.machine.specs.Taking.{Taken, stands, sets_out, faulty, take_task}
-use Rattle.machine.specs.Going.{settle, is_forward, call_follow}
+use Rattle.machine.specs.Going.{settle, call_follow}
 use Rattle.machine.specs.Lives.{Meaning, Worked}
 use Rattle.browser.specs.declared.ticket.Step.{Step}
 use Rattle.browser.specs.declared.ticket.Step.TheVariants as steps
@@ -43,11 +43,11 @@ taken L s bs a None = refl
 taken L s bs a (Some k) = settled by_follow s bs (take_task L s a k)
 
 abbrev enters : Limits → State → List Bytes → Bytes → Way → Option Place → Outcome
-enters L s bs a w o = need o (refuse (ended s) 34 bs) λ p. takes L s bs a (enter_of p.deck p.card (is_forward w))
+enters L s bs a w o = need o (refuse (ended s) 34 bs) λ p. takes L s bs a (enter_of p.deck p.card w)
 
 entered : (L : Limits) (s : State) (bs : List Bytes) (a : Bytes) (w : Way) (o : Option Place) → lands (enters L s bs a w o).answer ≡ false
 entered L s bs a w None = refl
-entered L s bs a w (Some p) = taken L s bs a (enter_of p.deck p.card (is_forward w))
+entered L s bs a w (Some p) = taken L s bs a (enter_of p.deck p.card w)
 
 abbrev finds : Limits → State → List Deck → List Bytes → Way → Option Bytes → Outcome
 finds L s ds bs w o = need o (refuse (ended s) 34 bs) λ a. enters L s bs a w (place_at ds a)

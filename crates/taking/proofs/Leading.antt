@@ -8,7 +8,7 @@ use Rattle.text.specs.declared.Mode.TheVariants.{Address}
 use Rattle.text.specs.declared.TextFault.{TextFault}
 use Rattle.address.specs.Resolve.{resolve}
 use Rattle.decks.specs.declared.Kind.TheVariants.{Go}
-use Rattle.machine.specs.declared.Way.TheVariants.{Forward}
+use Rattle.decks.specs.declared.Way.TheVariants.{Forward}
 use Rattle.machine.specs.State.{Pairs}
 use Rattle.machine.specs.Answer.{the_address}
 use Rattle.machine.specs.Assigning.{broken_in, unlawful}

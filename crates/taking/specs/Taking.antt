@@ -12,7 +12,7 @@ use Rattle.faults.specs.declared.TaskFault.{TaskFault}
 use Rattle.faults.specs.Told.{task_fault}
 use Rattle.errands.specs.declared.Trip.{Trip}
 use Rattle.errands.specs.Meaning.{trip_of}
-use Rattle.machine.specs.declared.Way.TheVariants.{Forward}
+use Rattle.decks.specs.declared.Way.TheVariants.{Forward}
 use Rattle.machine.specs.State.{Pairs, State, none}
 use Rattle.machine.specs.Answer.{the_address}
 use Rattle.machine.specs.Assigning.{broken_in}

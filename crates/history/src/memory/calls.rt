@@ -4,7 +4,7 @@ ghost use Rattle.address.specs.Meaning.{address_of};
 ghost use Rattle.decks.specs.Views.{opt};
 ghost use Rattle.machine.specs.Place.{newest, second};
 ghost use Rattle.machine.specs.Going.{moved};
-ghost use Rattle.machine.specs.declared.Way.TheVariants.{Forward, Backward};
+ghost use Rattle.decks.specs.declared.Way.TheVariants.{Forward, Backward};
 ghost use Rattle.history.specs.Kept.{kept};
 
 use super::History;

@@ -1,4 +1,5 @@
-use Rattle.std.proofs.Common.{true, false, ap, ◌∙◌}
+use Rattle.std.proofs.Common.{ap, ◌∙◌}
+use Rattle.decks.specs.declared.Way.TheVariants.{Forward, Backward}
 use Rattle.decks.specs.Views.{opt}
 use Rattle.questions.proofs.Entering.{entered}
 use Rattle.questions.proofs.ask_card.Goals as goal
@@ -12,8 +13,8 @@ returns-clause-placed g c =
       deck = l;
       below = record {
         card = m;
-        forward = c.task_if.ensures.placed ∙ ap (opt w.tasks) (entered d k true c.enter_task.result c.enter_task.ensures);
-        backward = c.task_if-2.ensures.placed ∙ ap (opt w.tasks) (entered d k false c.enter_task-2.result c.enter_task-2.ensures);
+        forward = c.task_if.ensures.placed ∙ ap (opt w.tasks) (entered d k Forward c.enter_task.result c.enter_task.ensures);
+        backward = c.task_if-2.ensures.placed ∙ ap (opt w.tasks) (entered d k Backward c.enter_task-2.result c.enter_task-2.ensures);
         binding = c.find_binding.ensures.placed;
       };
     }

@@ -1,4 +1,3 @@
-use Rattle.std.proofs.Common.{rules}
 use Rattle.script_tickets.proofs.NeverLands.{unlanded}
 use Rattle.script_tickets.proofs.follow_nowhere.Goals as goal
 

@@ -1,6 +1,6 @@
 use Rattle.std.proofs.Common.{ap, ◌∙◌}
 use Rattle.std.proofs.lemmas.Result.{err_from_is_err_and}
-use Rattle.machine.specs.declared.Way.TheVariants.{Forward}
+use Rattle.decks.specs.declared.Way.TheVariants.{Forward}
 use Rattle.machine.specs.State.{Pairs, Trip}
 use Rattle.names.specs.Names.{Bytes}
 use Rattle.address.specs.Meaning.{address_of}
