@@ -4,3 +4,4 @@ pub mod Allowances
 pub mod Views
 pub mod Handed
 pub mod Walk
+pub mod Words

@@ -15,6 +15,8 @@ ghost use Rattle.decks.specs.Views.{Numbered, Placed, Lies, opt, run, number_in,
 ghost use Rattle.decks.specs.Handed.{DeckLies, CardLies, BindingLies, AssignmentLies, DeckPlaced, CardBetween, CardPlaced, OfferPlaced, BindingPlaced, AssignmentPlaced};
 ghost use Rattle.decks.specs.Walk.{Walks, StandsBefore};
 
+mod words;
+
 /// What a task does: nothing, set out for its address, set out for the address before, or set
 /// variables and stand.
 #[derive(Clone, Copy, PartialEq, Eq, Debug)]
