@@ -36,59 +36,59 @@ pub enum Reply {
     Declined(CallFault),
 }
 
-/// The reply of a setting out.
-pub(crate) fn set_out(answer: Result<OutwardTicket, CallFault>) -> Reply
-    ensures told { answer_of result ≡ ticket_answer answer }
-    ensures unspent { Unspent answer → UnspentReply result }
-{
-    match answer {
-        Ok(ticket) => Reply::Outward(ticket),
-        Err(fault) => Reply::Declined(fault),
+impl From<Result<OutwardTicket, CallFault>> for Reply {
+    ghost from_gives = { λ answer reply. (answer_of reply ≡ ticket_answer answer) × (Unspent answer → UnspentReply reply) };
+
+    fn from(answer: Result<OutwardTicket, CallFault>) -> Reply {
+        match answer {
+            Ok(ticket) => Reply::Outward(ticket),
+            Err(fault) => Reply::Declined(fault),
+        }
     }
 }
 
-/// The reply where a call is done or not.
-pub(crate) fn finished(answer: Result<(), CallFault>) -> Reply
-    ensures told { answer_of result ≡ done_answer answer }
-    ensures unspent { UnspentReply result }
-{
-    match answer {
-        Ok(()) => Reply::Done,
-        Err(fault) => Reply::Declined(fault),
+impl From<Result<(), CallFault>> for Reply {
+    ghost from_gives = { λ answer reply. (answer_of reply ≡ done_answer answer) × UnspentReply reply };
+
+    fn from(answer: Result<(), CallFault>) -> Reply {
+        match answer {
+            Ok(()) => Reply::Done,
+            Err(fault) => Reply::Declined(fault),
+        }
     }
 }
 
-/// The reply of a call that writes.
-pub(crate) fn written(answer: Result<usize, CallFault>) -> Reply
-    ensures told { answer_of result ≡ length_answer answer }
-    ensures unspent { UnspentReply result }
-{
-    match answer {
-        Ok(len) => Reply::Wrote(len),
-        Err(fault) => Reply::Declined(fault),
+impl From<Result<usize, CallFault>> for Reply {
+    ghost from_gives = { λ answer reply. (answer_of reply ≡ length_answer answer) × UnspentReply reply };
+
+    fn from(answer: Result<usize, CallFault>) -> Reply {
+        match answer {
+            Ok(len) => Reply::Wrote(len),
+            Err(fault) => Reply::Declined(fault),
+        }
     }
 }
 
-/// The reply of a page.
-pub(crate) fn paged(answer: Result<Shown, CallFault>) -> Reply
-    ensures told { answer_of result ≡ shown_answer answer }
-    ensures unspent { UnspentReply result }
-{
-    match answer {
-        Ok(shown) => Reply::Page(shown),
-        Err(fault) => Reply::Declined(fault),
+impl From<Result<Shown, CallFault>> for Reply {
+    ghost from_gives = { λ answer reply. (answer_of reply ≡ shown_answer answer) × UnspentReply reply };
+
+    fn from(answer: Result<Shown, CallFault>) -> Reply {
+        match answer {
+            Ok(shown) => Reply::Page(shown),
+            Err(fault) => Reply::Declined(fault),
+        }
     }
 }
 
-/// The reply of an arrival or a task.
-pub(crate) fn stepped(answer: Result<Step, CallFault>) -> Reply
-    ensures told { answer_of result ≡ step_answer answer }
-    ensures unspent { StepUnspent answer → UnspentReply result }
-{
-    match answer {
-        Ok(Step::Standing) => Reply::Standing,
-        Ok(Step::Outward(ticket)) => Reply::Outward(ticket),
-        Ok(Step::Landed(ticket)) => Reply::Landed(ticket),
-        Err(fault) => Reply::Declined(fault),
+impl From<Result<Step, CallFault>> for Reply {
+    ghost from_gives = { λ answer reply. (answer_of reply ≡ step_answer answer) × (StepUnspent answer → UnspentReply reply) };
+
+    fn from(answer: Result<Step, CallFault>) -> Reply {
+        match answer {
+            Ok(Step::Standing) => Reply::Standing,
+            Ok(Step::Outward(ticket)) => Reply::Outward(ticket),
+            Ok(Step::Landed(ticket)) => Reply::Landed(ticket),
+            Err(fault) => Reply::Declined(fault),
+        }
     }
 }

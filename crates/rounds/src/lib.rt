@@ -12,7 +12,6 @@ ghost use Rattle.rounds.specs.Alike.{AnsweredAlike};
 ghost use Rattle.rounds.specs.Whole.{Whole};
 ghost use Rattle.rounds.specs.Handhelds.{StaysHandheld};
 
-use asked::{finished, paged, set_out, stepped, written};
 use browser::Browser;
 use decks::Shelf;
 use store::Store;
@@ -45,21 +44,22 @@ pub fn work<S: Store, H: Shelf>(
             browser.renew(number);
             Reply::Done
         }
-        Ask::Start(address) => set_out(browser.start(address)),
-        Ask::Press(name) => stepped(browser.press(shelf, name)),
-        Ask::Target(ticket) => written(browser.target(ticket, buf)),
-        Ask::Arrive(ticket) => stepped(browser.arrive(shelf, ticket)),
-        Ask::GiveUp(ticket) => finished(browser.give_up(ticket)),
-        Ask::Follow(ticket) => stepped(browser.follow(shelf, ticket)),
-        Ask::TypeIn(name, value) => finished(browser.type_in(name, value)),
-        Ask::Show => paged(browser.show(shelf, buf)),
-        Ask::Fill(text) => written(browser.fill(text, buf)),
-        Ask::Value(name) => written(browser.value(name, buf)),
-        Ask::Address => written(browser.address(buf)),
+        Ask::Start(address) => browser.start(address).into(),
+        Ask::Press(name) => browser.press(shelf, name).into(),
+        Ask::Target(ticket) => browser.target(ticket, buf).into(),
+        Ask::Arrive(ticket) => browser.arrive(shelf, ticket).into(),
+        Ask::GiveUp(ticket) => browser.give_up(ticket).into(),
+        Ask::Follow(ticket) => browser.follow(shelf, ticket).into(),
+        Ask::TypeIn(name, value) => browser.type_in(name, value).into(),
+        Ask::Show => browser.show(shelf, buf).into(),
+        Ask::Fill(text) => browser.fill(text, buf).into(),
+        Ask::Value(name) => browser.value(name, buf).into(),
+        Ask::Address => browser.address(buf).into(),
     }
 }
 
-/// Works one call on each of two browsers.
+/// Works one call on each of two browsers. It stands alone, since the check proves these two promises by itself, and the
+/// laws of `work_both` are read off them.
 fn ask_both<P: Store, Q: Store, H: Shelf, K: Shelf>(
     one: &mut Browser<P>,
     shelf: &H,
