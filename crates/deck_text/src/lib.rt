@@ -18,7 +18,7 @@
 #![tactic(auto)]
 
 use anyhow::anyhow;
-use decks::Run;
+use decks::{Kind, Run, Way};
 use std::alloc::{AllocError, Global};
 use tables::{AssignmentRecord, BindingRecord, CardRecord, DeckRecord, Ref, TaskRecord};
 
@@ -43,29 +43,36 @@ fn short(n: usize) -> anyhow::Result<u16> {
 
 /// A run with one number more; the first one sets where it begins.
 fn longer(run: Run, next: u16) -> anyhow::Result<Run> {
-    let Some(count) = run.count.checked_add(1) else {
-        return Err(anyhow!("more than 255 in a row"));
-    };
+    let count = run
+        .count
+        .checked_add(1)
+        .ok_or_else(|| anyhow!("more than 255 in a row"))?;
     let first = if run.count == 0 { next } else { run.first };
     Ok(Run { first, count })
 }
 
-fn kind_number(kind: &str) -> anyhow::Result<u8> {
-    match kind {
-        "noop" => Ok(0),
-        "go" => Ok(1),
-        "prev" => Ok(2),
-        "refresh" => Ok(3),
+/// The kind of a task by its name.
+fn kind_of(name: &str) -> anyhow::Result<Kind> {
+    match name {
+        "noop" => Ok(Kind::Noop),
+        "go" => Ok(Kind::Go),
+        "prev" => Ok(Kind::Prev),
+        "refresh" => Ok(Kind::Refresh),
         _ => Err(anyhow!("a task is noop, go, prev or refresh")),
     }
 }
 
 /// The first word of a text, and what follows the space after it.
 fn cut(text: &str) -> (&str, &str) {
-    match text.split_once(' ') {
-        Some((word, rest)) => (word, rest),
-        None => (text, ""),
-    }
+    text.split_once(' ').unwrap_or((text, ""))
+}
+
+/// Puts a text at the end of the pool.
+fn add_text(pool: &mut Vec<u8>, text: &str) -> anyhow::Result<Ref> {
+    let start = short(pool.len())?;
+    let len = short(text.len())?;
+    pool.extend_from_slice(text.as_bytes())?;
+    Ok(Ref { start, len })
 }
 
 impl Writer {
@@ -82,10 +89,7 @@ impl Writer {
     }
 
     fn text(&mut self, text: &str) -> anyhow::Result<Ref> {
-        let start = short(self.pool.len())?;
-        let len = short(text.len())?;
-        self.pool.extend_from_slice(text.as_bytes())?;
-        Ok(Ref { start, len })
+        add_text(&mut self.pool, text)
     }
 
     fn deck(&mut self, address: &str) -> anyhow::Result<()> {
@@ -101,18 +105,17 @@ impl Writer {
         Ok(())
     }
 
-    fn card(&mut self, id: &str, mark: u8) -> anyhow::Result<()> {
+    fn card(&mut self, id: &str, newcontext: bool) -> anyhow::Result<()> {
         let number = short(self.cards.len())?;
         let id = self.text(id)?;
         let body = self.text("")?;
-        let Some(mut deck) = self.decks.pop() else {
+        let Some(deck) = self.decks.last_mut() else {
             return Err(anyhow!("a card before any deck"));
         };
         deck.cards = longer(deck.cards, number)?;
-        self.decks.push(deck)?;
         self.cards.push(CardRecord {
             id,
-            mark,
+            mark: u8::from(newcontext),
             body,
             forward: NONE,
             backward: NONE,
@@ -122,13 +125,13 @@ impl Writer {
     }
 
     fn body(&mut self, text: &str) -> anyhow::Result<()> {
-        let Some(mut card) = self.cards.pop() else {
+        let Some(card) = self.cards.last_mut() else {
             return Err(anyhow!("a body before any card"));
         };
         if card.body.len > 0 {
             self.pool.push(b'\n')?;
         }
-        let line = self.text(text)?;
+        let line = add_text(&mut self.pool, text)?;
         let end = line.start as usize + line.len as usize;
         let start = if card.body.len > 0 {
             card.body.start
@@ -139,17 +142,16 @@ impl Writer {
             start,
             len: short(end.saturating_sub(start as usize))?,
         };
-        self.cards.push(card)?;
         Ok(())
     }
 
     fn task(&mut self, text: &str) -> anyhow::Result<u16> {
         let number = short(self.tasks.len())?;
         let (kind, address) = cut(text);
-        let kind = kind_number(kind)?;
+        let kind = kind_of(kind)?;
         let address = self.text(address)?;
         self.tasks.push(TaskRecord {
-            kind,
+            kind: kind as u8,
             address,
             assignments: Run { first: 0, count: 0 },
         })?;
@@ -158,30 +160,23 @@ impl Writer {
 
     /// Whether the last deck has a card: then what follows is the card's, else the template's.
     fn in_card(&self) -> bool {
-        match self.decks.last() {
-            Some(deck) => deck.cards.count > 0,
-            None => false,
-        }
+        self.decks.last().is_some_and(|deck| deck.cards.count > 0)
     }
 
-    fn enter(&mut self, forward: bool, text: &str) -> anyhow::Result<()> {
+    fn enter(&mut self, way: Way, text: &str) -> anyhow::Result<()> {
         let number = self.task(text)?;
         if self.in_card() {
-            if let Some(mut card) = self.cards.pop() {
-                if forward {
-                    card.forward = number;
-                } else {
-                    card.backward = number;
+            if let Some(card) = self.cards.last_mut() {
+                match way {
+                    Way::Forward => card.forward = number,
+                    Way::Backward => card.backward = number,
                 }
-                self.cards.push(card)?;
             }
-        } else if let Some(mut deck) = self.decks.pop() {
-            if forward {
-                deck.forward = number;
-            } else {
-                deck.backward = number;
+        } else if let Some(deck) = self.decks.last_mut() {
+            match way {
+                Way::Forward => deck.forward = number,
+                Way::Backward => deck.backward = number,
             }
-            self.decks.push(deck)?;
         }
         Ok(())
     }
@@ -194,24 +189,21 @@ impl Writer {
         let label = self.text("")?;
         self.bindings.push(BindingRecord { name, label, task })?;
         if self.in_card() {
-            if let Some(mut card) = self.cards.pop() {
+            if let Some(card) = self.cards.last_mut() {
                 card.bindings = longer(card.bindings, number)?;
-                self.cards.push(card)?;
             }
-        } else if let Some(mut deck) = self.decks.pop() {
+        } else if let Some(deck) = self.decks.last_mut() {
             deck.bindings = longer(deck.bindings, number)?;
-            self.decks.push(deck)?;
         }
         Ok(())
     }
 
     fn label(&mut self, text: &str) -> anyhow::Result<()> {
         let label = self.text(text)?;
-        let Some(mut binding) = self.bindings.pop() else {
+        let Some(binding) = self.bindings.last_mut() else {
             return Err(anyhow!("a label before any binding"));
         };
         binding.label = label;
-        self.bindings.push(binding)?;
         Ok(())
     }
 
@@ -222,11 +214,10 @@ impl Writer {
         };
         let name = self.text(name)?;
         let value = self.text(value)?;
-        let Some(mut task) = self.tasks.pop() else {
+        let Some(task) = self.tasks.last_mut() else {
             return Err(anyhow!("an assignment before any task"));
         };
         task.assignments = longer(task.assignments, number)?;
-        self.tasks.push(task)?;
         self.assignments.push(AssignmentRecord { name, value })?;
         Ok(())
     }
@@ -237,11 +228,11 @@ impl Writer {
         match word {
             "" | ";" => Ok(()),
             "deck" => self.deck(text),
-            "card" => self.card(text, 0),
-            "newcontext" => self.card(text, 1),
+            "card" => self.card(text, false),
+            "newcontext" => self.card(text, true),
             "body" => self.body(text),
-            "forward" => self.enter(true, text),
-            "backward" => self.enter(false, text),
+            "forward" => self.enter(Way::Forward, text),
+            "backward" => self.enter(Way::Backward, text),
             "bind" => self.bind(text),
             "label" => self.label(text),
             "set" => self.assign(text),

@@ -7,28 +7,16 @@
 
 use anyhow::anyhow;
 use deck_text::Writer;
-use decks::{CardView, DeckView, Kind, Part, Run, Shelf, TaskView, assignment_of};
+use decks::{CardView, DeckView, Part, Run, Shelf, TaskView};
 use file_tables::FileTables;
 use judge::{deck_address, record_ok, size_of, stands_from};
 use shelf_file::FileShelf;
 use std::{env, fs};
-use tables::{Cause, Counts, Table, Tables, perhaps_task_ok, ref_ok, run_ok, text_ok};
+use tables::{Cause, Counts, Table, Tables, run_ok};
 
 /// A text as it is printed.
 fn shown<'a>(text: &Part<'a>) -> &'a str {
-    match std::str::from_utf8(text.bytes) {
-        Ok(text) => text,
-        Err(_) => "(no text)",
-    }
-}
-
-fn kind_name(kind: Kind) -> &'static str {
-    match kind {
-        Kind::Noop => "noop",
-        Kind::Go => "go",
-        Kind::Prev => "prev",
-        Kind::Refresh => "refresh",
-    }
+    std::str::from_utf8(text.bytes).unwrap_or("(no text)")
 }
 
 fn show_task<S: Shelf>(
@@ -37,13 +25,12 @@ fn show_task<S: Shelf>(
     word: &str,
     task: &TaskView,
 ) -> anyhow::Result<()> {
-    let kind = kind_name(task.kind);
+    let kind = task.kind;
     let address = shown(&task.address);
     println!(rt; "    {word} {kind} {address}")?;
-    for k in 0..256 {
-        let Some(assignment) = assignment_of(shelf, task, k) else {
-            break;
-        };
+    let first = task.assignments.first as usize;
+    for a in first..first + task.assignments.count as usize {
+        let assignment = shelf.assignment(a);
         let name = shown(&assignment.name);
         let value = shown(&assignment.value);
         println!(rt; "      set {name}={value}")?;
@@ -108,25 +95,23 @@ fn show_deck<S: Shelf>(rt: &HostRuntime, shelf: &S, deck: &DeckView) -> anyhow::
 }
 
 fn show_decks<S: Shelf>(rt: &HostRuntime, shelf: &S) -> anyhow::Result<()> {
-    for k in 0..65_536 {
-        let Some(deck) = shelf.deck(k) else {
-            break;
-        };
+    for deck in (0..65_536).map_while(|k| shelf.deck(k)) {
         show_deck(rt, shelf, &deck)?;
     }
     Ok(())
 }
 
-/// The first field of a record that is outside its allowance.
+/// The first field of a record that is outside its allowance: the tests stand in the order of the
+/// fields, and the last field needs none.
 fn field_name<T: Tables>(tables: &T, n: Counts, table: Table, i: usize) -> &'static str {
     match table {
         Table::Decks => deck_field(tables, n, i),
         Table::Cards => card_field(tables, n, i),
         Table::Bindings => {
             let r = tables.binding(i);
-            if !ref_ok(n, r.name) || r.name.len == 0 || r.name.len > 32 {
+            if !n.ref_ok(r.name) || r.name.len == 0 || r.name.len > 32 {
                 "name"
-            } else if !text_ok(n, r.label) {
+            } else if !n.text_ok(r.label) {
                 "label"
             } else {
                 "task"
@@ -136,7 +121,7 @@ fn field_name<T: Tables>(tables: &T, n: Counts, table: Table, i: usize) -> &'sta
             let r = tables.task(i);
             if r.kind > 3 {
                 "kind"
-            } else if !text_ok(n, r.address) {
+            } else if !n.text_ok(r.address) {
                 "address"
             } else {
                 "assignments"
@@ -144,20 +129,20 @@ fn field_name<T: Tables>(tables: &T, n: Counts, table: Table, i: usize) -> &'sta
         }
         Table::Assignments => {
             let r = tables.assignment(i);
-            if !text_ok(n, r.name) { "name" } else { "value" }
+            if !n.text_ok(r.name) { "name" } else { "value" }
         }
     }
 }
 
 fn deck_field<T: Tables>(tables: &T, n: Counts, i: usize) -> &'static str {
     let r = tables.deck(i);
-    if !ref_ok(n, r.address) {
+    if !n.ref_ok(r.address) {
         "address"
     } else if r.cards.count == 0 || !run_ok(r.cards, n.cards) {
         "cards"
-    } else if !perhaps_task_ok(n, r.forward) {
+    } else if !n.perhaps_task_ok(r.forward) {
         "forward task"
-    } else if !perhaps_task_ok(n, r.backward) {
+    } else if !n.perhaps_task_ok(r.backward) {
         "backward task"
     } else {
         "bindings"
@@ -166,39 +151,36 @@ fn deck_field<T: Tables>(tables: &T, n: Counts, i: usize) -> &'static str {
 
 fn card_field<T: Tables>(tables: &T, n: Counts, i: usize) -> &'static str {
     let r = tables.card(i);
-    if !ref_ok(n, r.id) || r.id.len > 32 {
+    if !n.ref_ok(r.id) || r.id.len > 32 {
         "id"
     } else if r.mark > 1 {
         "mark"
-    } else if !text_ok(n, r.body) {
+    } else if !n.text_ok(r.body) {
         "body"
-    } else if !perhaps_task_ok(n, r.forward) {
+    } else if !n.perhaps_task_ok(r.forward) {
         "forward task"
-    } else if !perhaps_task_ok(n, r.backward) {
+    } else if !n.perhaps_task_ok(r.backward) {
         "backward task"
     } else {
         "bindings"
     }
 }
 
-fn table_name(table: Table) -> &'static str {
-    match table {
-        Table::Decks => "deck",
-        Table::Cards => "card",
-        Table::Bindings => "binding",
-        Table::Tasks => "task",
-        Table::Assignments => "assignment",
-    }
-}
+const TABLES: [Table; 5] = [
+    Table::Decks,
+    Table::Cards,
+    Table::Bindings,
+    Table::Tasks,
+    Table::Assignments,
+];
 
 /// Prints each record of a table that is outside its allowance, with the first such field.
 fn show_faults<T: Tables>(rt: &HostRuntime, tables: &T, table: Table) -> anyhow::Result<()> {
     let n = tables.counts();
-    let name = table_name(table);
     for i in 0..size_of(n, table) {
         if !record_ok(tables, table, i) {
             let field = field_name(tables, n, table, i);
-            println!(rt; "  {name} {i}: {field}")?;
+            println!(rt; "  {table} {i}: {field}")?;
         }
     }
     Ok(())
@@ -227,11 +209,9 @@ fn show_refusal(rt: &HostRuntime, file: &[u8], cause: Cause) -> anyhow::Result<(
         Cause::Sum => println!(rt; "{number}: the parts do not add up to the length")?,
         Cause::Record => {
             println!(rt; "{number}: outside its allowance")?;
-            show_faults(rt, &tables, Table::Decks)?;
-            show_faults(rt, &tables, Table::Cards)?;
-            show_faults(rt, &tables, Table::Bindings)?;
-            show_faults(rt, &tables, Table::Tasks)?;
-            show_faults(rt, &tables, Table::Assignments)?;
+            for table in TABLES {
+                show_faults(rt, &tables, table)?;
+            }
         }
         Cause::Address => {
             println!(rt; "{number}: a deck's address")?;

@@ -1,19 +1,19 @@
 //! Bytes written as hexadecimal digits.
 #![tactic(auto)]
 
-ghost use Rattle.std.specs.Prelude.{◌<◌, IfSome};
+ghost use Rattle.std.specs.Prelude.{◌<◌, IfOk};
 
 use anyhow::anyhow;
 use std::alloc::Global;
 
-/// The value of a small hexadecimal digit.
-fn digit(b: u8) -> Option<u8>
-    ensures { IfSome result (λ n. n < 16) }
+/// The value of a small hexadecimal digit. (`to_digit` would take capitals too.)
+fn digit(b: u8) -> anyhow::Result<u8>
+    ensures { IfOk result (λ n. n < 16) }
 {
     match b {
-        b'0'..=b'9' => Some(b - b'0'),
-        b'a'..=b'f' => Some(b - b'a' + 10),
-        _ => None,
+        b'0'..=b'9' => Ok(b - b'0'),
+        b'a'..=b'f' => Ok(b - b'a' + 10),
+        _ => Err(anyhow!("no hexadecimal digit")),
     }
 }
 
@@ -23,13 +23,7 @@ fn add_pairs(out: &mut Vec<u8>, digits: &[u8]) -> anyhow::Result<()> {
         let [high, low] = pair else {
             return Err(anyhow!("an odd number of digits"));
         };
-        let Some(h) = digit(*high) else {
-            return Err(anyhow!("no hexadecimal digit"));
-        };
-        let Some(l) = digit(*low) else {
-            return Err(anyhow!("no hexadecimal digit"));
-        };
-        out.push(16 * h + l)?;
+        out.push(16 * digit(*high)? + digit(*low)?)?;
     }
     Ok(())
 }

@@ -8,22 +8,19 @@ ghost use Rattle.tables.specs.Meaning.{text_of};
 ghost use Rattle.tables.specs.Verdict.{record_ok, table_ok, sound, addresses, among, addressed, judgement};
 
 use address::is_deck_address;
-use tables::{
-    Cause, Counts, Table, Tables, assignment_ok, binding_ok, card_ok, counts_ok, deck_ok, part,
-    task_ok,
-};
+use tables::{Cause, Counts, Table, Tables, part};
 
-/// Whether record `i` of a table keeps its allowances.
+/// Whether record `i` of a table keeps its allowances. (Each table has a kind of record of its own.)
 pub fn record_ok<T: Tables>(tables: &T, table: Table, i: usize) -> bool
     ensures { result ≡ record_ok (T.Tables.tables tables.now) table i }
 {
     let n = tables.counts();
     match table {
-        Table::Decks => deck_ok(n, tables.deck(i)),
-        Table::Cards => card_ok(n, tables.card(i)),
-        Table::Bindings => binding_ok(n, tables.binding(i)),
-        Table::Tasks => task_ok(n, tables.task(i)),
-        Table::Assignments => assignment_ok(n, tables.assignment(i)),
+        Table::Decks => n.deck_ok(tables.deck(i)),
+        Table::Cards => n.card_ok(tables.card(i)),
+        Table::Bindings => n.binding_ok(tables.binding(i)),
+        Table::Tasks => n.task_ok(tables.task(i)),
+        Table::Assignments => n.assignment_ok(tables.assignment(i)),
     }
 }
 
@@ -44,20 +41,14 @@ pub fn size_of(n: Counts, table: Table) -> usize
 fn table_ok<T: Tables>(tables: &T, table: Table) -> bool
     ensures { result ≡ table_ok (T.Tables.tables tables.now) table }
 {
-    let n = tables.counts();
-    for i in 0..size_of(n, table) {
-        if !record_ok(tables, table, i) {
-            return false;
-        }
-    }
-    true
+    (0..size_of(tables.counts(), table)).all(|i| record_ok(tables, table, i))
 }
 
 /// Whether every record of every table keeps its allowances.
 pub fn is_sound<T: Tables>(tables: &T) -> bool
     ensures { result ≡ sound (T.Tables.tables tables.now) }
 {
-    counts_ok(tables.counts())
+    tables.counts().counts_ok()
         && table_ok(tables, Table::Decks)
         && table_ok(tables, Table::Cards)
         && table_ok(tables, Table::Bindings)
@@ -89,20 +80,14 @@ pub fn stands_from<T: Tables>(tables: &T, from: usize, address: &[u8]) -> bool
 fn is_addressed<T: Tables>(tables: &T) -> bool
     ensures { result ≡ addressed (addresses (T.Tables.tables tables.now)) }
 {
-    let end = tables.counts().decks;
-    for k in 0..end {
+    (0..tables.counts().decks).all(|k| {
         let address = deck_address(tables, k);
-        if !is_deck_address(address) {
-            return false;
-        }
-        if stands_from(tables, k + 1, address) {
-            return false;
-        }
-    }
-    true
+        is_deck_address(address) && !stands_from(tables, k + 1, address)
+    })
 }
 
-/// The first cause for which tables are refused, if any.
+/// The first cause for which tables are refused, if any. (A `Result` with `?` would be turned back
+/// into this `Option` at once.)
 pub fn judgement_of<T: Tables>(tables: &T) -> Option<Cause>
     ensures { result ≡ judgement (T.Tables.tables tables.now) }
 {

@@ -1,6 +1,6 @@
 -- What the decks of accepted tables keep to. Assumes nothing.
 use Rattle.std.proofs.Common.{◌≡◌, ℕ, zero, suc, ◌+◌, ◌<◌, ◌≤◌, Bool, true, false, cond, not, ◌||◌, eqb, ltb, leb, ◌≢◌, List, [], ◌∷◌, map, length, get_or, take, drop, Some, None, Option, sym, refl, ap, ◌∙◌, subst, arith}
-use Rattle.std.specs.List.{AllByRecursion}
+use Rattle.std.specs.List.{AllByRecursion, list_all}
 use Rattle.std.specs.Str.{bytes_eq}
 use Rattle.std.proofs.lemmas.List.{length-take, length-drop, length-map, get_or-map, ext_get_or}
 use Rattle.std.proofs.lemmas.List.FromFn.{length-range_with_len, length-map-range_with_len, get_or-map-range_with_len}
@@ -19,17 +19,17 @@ use Rattle.tables.specs.declared.Table.TheVariants.{Decks, Cards, Bindings, Task
 use Rattle.tables.specs.Records.{Tabled, counts_of, no_deck, no_card, no_binding, no_task, no_assignment}
 use Rattle.tables.specs.Tests.{ref_ok, text_ok, run_ok, perhaps_task_ok, deck_ok, card_ok, binding_ok, task_ok, assignment_ok, counts_ok}
 use Rattle.tables.specs.Meaning.{text_of, perhaps, assignment_no, task_no, binding_no, card_no, deck_no, listed}
-use Rattle.tables.specs.Verdict.{all, table_ok, sound, addresses, among, addressed, judgement, unless, under}
+use Rattle.tables.specs.Verdict.{table_ok, sound, addresses, among, addressed, judgement, unless, under}
 use Rattle.tables.proofs.Alls.{all-at, all-run}
 
 -- the tests of accepted tables, opened
 pub record Sound (t : Tabled) : Type 0 where
   pub few : length t.decks ≤ 65535
-  pub deck : all (deck_ok (counts_of t)) t.decks ≡ true
-  pub card : all (card_ok (counts_of t)) t.cards ≡ true
-  pub binding : all (binding_ok (counts_of t)) t.bindings ≡ true
-  pub task : all (task_ok (counts_of t)) t.tasks ≡ true
-  pub assignment : all (assignment_ok (counts_of t)) t.assignments ≡ true
+  pub deck : list_all (deck_ok (counts_of t)) t.decks ≡ true
+  pub card : list_all (card_ok (counts_of t)) t.cards ≡ true
+  pub binding : list_all (binding_ok (counts_of t)) t.bindings ≡ true
+  pub task : list_all (task_ok (counts_of t)) t.tasks ≡ true
+  pub assignment : list_all (assignment_ok (counts_of t)) t.assignments ≡ true
 
 opened : (t : Tabled) → sound t ≡ true → Sound t
 unfolding table_ok

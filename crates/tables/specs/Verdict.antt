@@ -1,5 +1,6 @@
 -- The causes of refusal, and which of them tables give. Assumes nothing.
 use Rattle.std.specs.Prelude.{ℕ, Bool, true, false, cond, not, ◌&&◌, ◌||◌, List, [], ◌∷◌, map, Some, None, Option, slice_index_or}
+use Rattle.std.specs.List.{list_all}
 use Rattle.std.specs.Str.{bytes_eq}
 use Rattle.address.specs.Address.{is_deck_address}
 use Rattle.decks.specs.Model.{Deck}
@@ -23,11 +24,6 @@ cause_number Address = 45
 abbrev pub unless : Bool → Cause → Option Cause → Option Cause
 unless ok c rest = cond ok rest (Some c)
 
--- every one passes
-abbrev pub all : {X : Type 0} → (X → Bool) → List X → Bool
-all p [] = true
-all p (x ∷ xs) = p x && all p xs
-
 -- record i of a table keeps its allowances
 abbrev pub record_ok : Tabled → Table → ℕ → Bool
 record_ok t Decks i = deck_ok (counts_of t) (slice_index_or t.decks i no_deck)
@@ -38,11 +34,11 @@ record_ok t Assignments i = assignment_ok (counts_of t) (slice_index_or t.assign
 
 -- every record of a table keeps its allowances
 unfoldable pub table_ok : Tabled → Table → Bool
-table_ok t Decks = all (deck_ok (counts_of t)) t.decks
-table_ok t Cards = all (card_ok (counts_of t)) t.cards
-table_ok t Bindings = all (binding_ok (counts_of t)) t.bindings
-table_ok t Tasks = all (task_ok (counts_of t)) t.tasks
-table_ok t Assignments = all (assignment_ok (counts_of t)) t.assignments
+table_ok t Decks = list_all (deck_ok (counts_of t)) t.decks
+table_ok t Cards = list_all (card_ok (counts_of t)) t.cards
+table_ok t Bindings = list_all (binding_ok (counts_of t)) t.bindings
+table_ok t Tasks = list_all (task_ok (counts_of t)) t.tasks
+table_ok t Assignments = list_all (assignment_ok (counts_of t)) t.assignments
 
 -- every record of every table keeps its allowances
 abbrev pub sound : Tabled → Bool

@@ -9,7 +9,12 @@ ghost use Rattle.tables.specs.Meaning.{text_of, kind_of, perhaps};
 ghost use Rattle.tables.specs.Verdict.{cause_number};
 ghost use Rattle.decks.specs.Views.{Lies};
 
+mod words;
+
 use decks::{Kind, Part, Run};
+
+// The records below keep the file's own numbers, as `u8` and `u16`: any file can be read into them,
+// and they are judged after.
 
 /// Where a text starts in the pool, and how many bytes it has.
 #[derive(Clone, Copy)]
@@ -96,7 +101,7 @@ pub enum Cause {
 }
 
 impl Cause {
-    /// The number of the refusal.
+    /// The number of the refusal. (Written out, as two causes may not share one.)
     pub fn number(self) -> u8
         ensures { result ≡ cause_number self }
     {
@@ -210,7 +215,7 @@ pub fn part<'a>(pool: &'a [u8], r: Ref) -> Part<'a>
     }
 }
 
-/// The kind of a task by its number.
+/// The kind of a task by its number. (Not a `TryFrom`: a number that is no kind means noop.)
 pub fn kind_of(kind: u8) -> Kind
     ensures { result ≡ kind_of kind }
 {
@@ -222,25 +227,11 @@ pub fn kind_of(kind: u8) -> Kind
     }
 }
 
-/// A task number where 65,535 means none.
+/// A task number where 65,535 means none. (`(n != 65_535).then_some(n)` would say no more.)
 pub fn perhaps_task(n: u16) -> Option<u16>
     ensures { result ≡ perhaps n }
 {
     if n == 65_535 { None } else { Some(n) }
-}
-
-/// Whether a ref lies within the pool.
-pub fn ref_ok(n: Counts, r: Ref) -> bool
-    ensures { result ≡ ref_ok n r }
-{
-    r.start as usize + r.len as usize <= n.pool
-}
-
-/// Whether a text lies within the pool and has at most 1,024 bytes.
-pub fn text_ok(n: Counts, r: Ref) -> bool
-    ensures { result ≡ text_ok n r }
-{
-    ref_ok(n, r) && r.len <= 1024
 }
 
 /// Whether a run lies within a table of `n` records.
@@ -250,73 +241,89 @@ pub fn run_ok(r: Run, n: usize) -> bool
     r.first as usize + r.count as usize <= n
 }
 
-/// Whether a task number of a deck or a card is 65,535 or that of a task.
-pub fn perhaps_task_ok(n: Counts, t: u16) -> bool
-    ensures { result ≡ perhaps_task_ok n t }
-{
-    t == 65_535 || (t as usize) < n.tasks
-}
+impl Counts {
+    /// Whether each table has at most 65,535 records.
+    pub fn counts_ok(self) -> bool
+        ensures { result ≡ counts_ok self }
+    {
+        self.decks <= 65_535
+            && self.cards <= 65_535
+            && self.bindings <= 65_535
+            && self.tasks <= 65_535
+            && self.assignments <= 65_535
+    }
 
-/// Whether a deck keeps its allowances.
-pub fn deck_ok(n: Counts, r: DeckRecord) -> bool
-    ensures { result ≡ deck_ok n r }
-{
-    ref_ok(n, r.address)
-        && r.cards.count > 0
-        && run_ok(r.cards, n.cards)
-        && perhaps_task_ok(n, r.forward)
-        && perhaps_task_ok(n, r.backward)
-        && run_ok(r.bindings, n.bindings)
-}
+    /// Whether a ref lies within the pool.
+    pub fn ref_ok(self, r: Ref) -> bool
+        ensures { result ≡ ref_ok self r }
+    {
+        r.start as usize + r.len as usize <= self.pool
+    }
 
-/// Whether a card keeps its allowances.
-pub fn card_ok(n: Counts, r: CardRecord) -> bool
-    ensures { result ≡ card_ok n r }
-{
-    ref_ok(n, r.id)
-        && r.id.len <= 32
-        && r.mark <= 1
-        && text_ok(n, r.body)
-        && perhaps_task_ok(n, r.forward)
-        && perhaps_task_ok(n, r.backward)
-        && run_ok(r.bindings, n.bindings)
-}
+    /// Whether a text lies within the pool and has at most 1,024 bytes.
+    pub fn text_ok(self, r: Ref) -> bool
+        ensures { result ≡ text_ok self r }
+    {
+        self.ref_ok(r) && r.len <= 1024
+    }
 
-/// Whether a binding keeps its allowances.
-pub fn binding_ok(n: Counts, r: BindingRecord) -> bool
-    ensures { result ≡ binding_ok n r }
-{
-    ref_ok(n, r.name)
-        && r.name.len > 0
-        && r.name.len <= 32
-        && text_ok(n, r.label)
-        && (r.task as usize) < n.tasks
-}
+    /// Whether a task number of a deck or a card is 65,535 or that of a task.
+    pub fn perhaps_task_ok(self, t: u16) -> bool
+        ensures { result ≡ perhaps_task_ok self t }
+    {
+        t == 65_535 || (t as usize) < self.tasks
+    }
 
-/// Whether a task keeps its allowances.
-pub fn task_ok(n: Counts, r: TaskRecord) -> bool
-    ensures { result ≡ task_ok n r }
-{
-    r.kind <= 3
-        && text_ok(n, r.address)
-        && r.assignments.count <= 16
-        && run_ok(r.assignments, n.assignments)
-}
+    /// Whether a deck keeps its allowances.
+    pub fn deck_ok(self, r: DeckRecord) -> bool
+        ensures { result ≡ deck_ok self r }
+    {
+        self.ref_ok(r.address)
+            && r.cards.count > 0
+            && run_ok(r.cards, self.cards)
+            && self.perhaps_task_ok(r.forward)
+            && self.perhaps_task_ok(r.backward)
+            && run_ok(r.bindings, self.bindings)
+    }
 
-/// Whether an assignment keeps its allowances.
-pub fn assignment_ok(n: Counts, r: AssignmentRecord) -> bool
-    ensures { result ≡ assignment_ok n r }
-{
-    text_ok(n, r.name) && text_ok(n, r.value)
-}
+    /// Whether a card keeps its allowances.
+    pub fn card_ok(self, r: CardRecord) -> bool
+        ensures { result ≡ card_ok self r }
+    {
+        self.ref_ok(r.id)
+            && r.id.len <= 32
+            && r.mark <= 1
+            && self.text_ok(r.body)
+            && self.perhaps_task_ok(r.forward)
+            && self.perhaps_task_ok(r.backward)
+            && run_ok(r.bindings, self.bindings)
+    }
 
-/// Whether each table has at most 65,535 records.
-pub fn counts_ok(n: Counts) -> bool
-    ensures { result ≡ counts_ok n }
-{
-    n.decks <= 65_535
-        && n.cards <= 65_535
-        && n.bindings <= 65_535
-        && n.tasks <= 65_535
-        && n.assignments <= 65_535
+    /// Whether a binding keeps its allowances.
+    pub fn binding_ok(self, r: BindingRecord) -> bool
+        ensures { result ≡ binding_ok self r }
+    {
+        self.ref_ok(r.name)
+            && r.name.len > 0
+            && r.name.len <= 32
+            && self.text_ok(r.label)
+            && (r.task as usize) < self.tasks
+    }
+
+    /// Whether a task keeps its allowances.
+    pub fn task_ok(self, r: TaskRecord) -> bool
+        ensures { result ≡ task_ok self r }
+    {
+        r.kind <= 3
+            && self.text_ok(r.address)
+            && r.assignments.count <= 16
+            && run_ok(r.assignments, self.assignments)
+    }
+
+    /// Whether an assignment keeps its allowances.
+    pub fn assignment_ok(self, r: AssignmentRecord) -> bool
+        ensures { result ≡ assignment_ok self r }
+    {
+        self.text_ok(r.name) && self.text_ok(r.value)
+    }
 }

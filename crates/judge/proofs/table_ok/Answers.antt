@@ -1,31 +1,19 @@
-use Rattle.std.proofs.Common.{◌<◌, ◌≤◌, sym, ap, ◌∙◌, arith}
+use Rattle.std.proofs.Common.{◌≡◌, refl, ap, ◌∙◌, arith, rules}
+use Rattle.std.specs.List.{list_all, range_with_len}
+use Rattle.std.proofs.lemmas.Iterator.{YieldsList-from_range}
+use Rattle.std.proofs.lemmas.Iterator.Search.{all_from_yields_List}
+use borrow.Author.Tests.{tests}
 use Rattle.tables.specs.Records.{counts_of, size_of}
-use Rattle.tables.proofs.Tabling.{rest_all, rest_on, rest_off, rest_end}
+use Rattle.tables.specs.Verdict.{record_ok}
+use Rattle.tables.proofs.Tabling.{every_record}
 use Rattle.judge.proofs.table_ok.Goals as goal
-
-pub loop-i-init : goal.loop-i-init
-loop-i-init g c = rest_all (g.T.Tables.tables c.args.tables.now) c.args.table
-
-pub returns-then-not-record_ok : goal.returns-then-not-record_ok
-returns-then-not-record_ok g c =
-    let t = g.T.Tables.tables c.args.tables.now in
-    let w = c.args.table in
-    let size = c.size_of-i-end.ensures ∙ ap (λ n. size_of n w) c.counts-n.ensures in
-    let h : c.loop-i.i < size_of (counts_of t) w = omega arith in
-    sym (rest_off t w c.loop-i.i h (sym c.record_ok.ensures ∙ c.if-not-record_ok.true)) ∙ c.loop-i.invariant
-
-pub loop-i-preserved : goal.loop-i-preserved
-loop-i-preserved g c =
-    let t = g.T.Tables.tables c.args.tables.now in
-    let w = c.args.table in
-    let size = c.size_of-i-end.ensures ∙ ap (λ n. size_of n w) c.counts-n.ensures in
-    let h : c.loop-i.i < size_of (counts_of t) w = omega arith in
-    sym (rest_on t w c.loop-i.i h (sym c.record_ok.ensures ∙ c.if-not-record_ok.false)) ∙ c.loop-i.invariant
 
 pub returns : goal.returns
 returns g c =
     let t = g.T.Tables.tables c.args.tables.now in
     let w = c.args.table in
-    let size = c.size_of-i-end.ensures ∙ ap (λ n. size_of n w) c.counts-n.ensures in
-    let h : size_of (counts_of t) w ≤ c.loop-i.i = omega arith in
-    sym (rest_end t w c.loop-i.i h) ∙ c.loop-i.invariant
+    let n = c.size_of.result in
+    let size : n ≡ size_of (counts_of t) w = c.size_of.ensures ∙ ap (λ m. size_of m w) c.counts.ensures in
+    let every : c.all.result ≡ list_all (record_ok t w) (range_with_len 0 n) =
+    all_from_yields_List (record_ok t w) _ _ c.all.result c.all.ensures.ran (YieldsList-from_range 0 n n refl (omega arith)) (λ x b q k. search (rules, tests)) in
+    every ∙ ap (λ m. list_all (record_ok t w) (range_with_len 0 m)) size ∙ every_record t w
