@@ -1,4 +1,5 @@
-//! The records of a shelf file, read from its bytes. Numbers are unsigned, big end first.
+//! The records of a shelf file, read from its bytes. Numbers are unsigned, big end first. Each
+//! function takes the bytes and a place, as the layout tells where in a record each field lies.
 #![tactic(auto)]
 
 ghost use Rattle.std.specs.Prelude.{◌≡◌, ℕ, ◌+◌, ◌<◌, ◌≤◌, length};
@@ -12,7 +13,7 @@ pub fn number_at(bytes: &[u8], i: usize) -> u16
     requires { i + 2 ≤ length bytes.now }
     ensures { result ≡ number bytes.now i }
 {
-    256 * bytes[i] as u16 + bytes[i + 1] as u16
+    u16::from_be_bytes([bytes[i], bytes[i + 1]])
 }
 
 /// The ref in the 4 bytes at `i`.

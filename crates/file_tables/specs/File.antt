@@ -3,6 +3,7 @@ use Rattle.std.specs.Prelude.{ℕ, ◌+◌, ◌-◌, ◌*◌, Bool, ◌&&◌, Li
 use Rattle.std.specs.List.{range_with_len}
 use Rattle.decks.specs.Model.{Deck}
 use Rattle.tables.specs.declared.Counts.{Counts}
+use Rattle.file_tables.specs.declared.Starts.{Starts}
 use Rattle.tables.specs.declared.Cause.{Cause}
 use Rattle.tables.specs.declared.Cause.TheVariants.{Size, Form, Sum}
 use Rattle.tables.specs.Records.{Tabled}
@@ -17,6 +18,17 @@ counts_of_file xs = counts_at xs (length xs - 14)
 -- how many bytes come before the trailer: the pool, then decks of 14, cards of 16, bindings of 10, tasks of 8, assignments of 8
 abbrev pub total : Counts → ℕ
 total n = n.pool + 14 * n.decks + 16 * n.cards + 10 * n.bindings + 8 * n.tasks + 8 * n.assignments
+
+-- where each table begins, and the trailer behind them
+abbrev pub starts_of : Counts → Starts
+starts_of n = record {
+  decks = n.pool;
+  cards = n.pool + 14 * n.decks;
+  bindings = n.pool + 14 * n.decks + 16 * n.cards;
+  tasks = n.pool + 14 * n.decks + 16 * n.cards + 10 * n.bindings;
+  assignments = n.pool + 14 * n.decks + 16 * n.cards + 10 * n.bindings + 8 * n.tasks;
+  trailer = total n;
+}
 
 -- 14 to 60,000 bytes
 abbrev pub size_ok : List ℕ → Bool

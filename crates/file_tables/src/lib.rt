@@ -2,8 +2,8 @@
 //! tasks and assignments, and a trailer of 14 bytes.
 #![tactic(auto)]
 
-ghost use Rattle.std.specs.Prelude.{◌≡◌, ℕ, ◌+◌, ◌-◌, ◌*◌, ◌<◌, ◌≤◌, length};
-ghost use Rattle.file_tables.specs.File.{total, size_ok, form_ok, sum_ok, frame, counts_in, tabled};
+ghost use Rattle.std.specs.Prelude.{◌≡◌, ℕ, ◌+◌, ◌-◌, ◌*◌, ◌^◌, ◌<◌, ◌≤◌, length};
+ghost use Rattle.file_tables.specs.File.{total, starts_of, size_ok, form_ok, sum_ok, frame, counts_in, tabled};
 
 use file_records::{assignment_at, binding_at, card_at, counts_at, deck_at, task_at};
 use tables::{
@@ -18,6 +18,48 @@ const MOST: usize = 60_000;
 const FORM: u8 = 1;
 
 const MARK: u8 = 0x57;
+
+const DECK: usize = 14;
+
+const CARD: usize = 16;
+
+const BINDING: usize = 10;
+
+const TASK: usize = 8;
+
+const ASSIGNMENT: usize = 8;
+
+/// Where each table of a file begins, and the trailer behind them.
+#[derive(Clone, Copy)]
+struct Starts {
+    decks: usize,
+    cards: usize,
+    bindings: usize,
+    tasks: usize,
+    assignments: usize,
+    trailer: usize,
+}
+
+/// Where the tables begin in a file with these counts.
+fn starts_of(n: Counts) -> Starts
+    requires { total n < 2 ^ 32 }
+    ensures { result ≡ starts_of n }
+{
+    let decks = n.pool;
+    let cards = decks + DECK * n.decks;
+    let bindings = cards + CARD * n.cards;
+    let tasks = bindings + BINDING * n.bindings;
+    let assignments = tasks + TASK * n.tasks;
+    let trailer = assignments + ASSIGNMENT * n.assignments;
+    Starts {
+        decks,
+        cards,
+        bindings,
+        tasks,
+        assignments,
+        trailer,
+    }
+}
 
 /// Whether a file has 14 to 60,000 bytes.
 fn size_ok(bytes: &[u8]) -> bool
@@ -39,18 +81,12 @@ fn sum_ok(bytes: &[u8]) -> bool
     requires { 14 ≤ length bytes.now }
     ensures { result ≡ sum_ok bytes.now }
 {
-    let n = counts_at(bytes, bytes.len() - TRAILER);
-    n.pool
-        + 14 * n.decks
-        + 16 * n.cards
-        + 10 * n.bindings
-        + 8 * n.tasks
-        + 8 * n.assignments
-        + TRAILER
-        == bytes.len()
+    let starts = starts_of(counts_at(bytes, bytes.len() - TRAILER));
+    starts.trailer + TRAILER == bytes.len()
 }
 
-/// The first cause for which a file's parts are refused, if any.
+/// The first cause for which a file's parts are refused, if any. (A `Result` with `?` would be
+/// turned back into this `Option` at once.)
 pub fn frame_refusal(bytes: &[u8]) -> Option<Cause>
     ensures { result ≡ frame bytes.now }
 {
@@ -118,44 +154,40 @@ impl Tables for FileTables<'_> {
     }
 
     fn deck(&self, i: usize) -> DeckRecord {
-        let n = self.counts;
-        if i >= n.decks {
+        if i >= self.counts.decks {
             return NO_DECK;
         }
-        deck_at(self.bytes, n.pool + 14 * i)
+        deck_at(self.bytes, starts_of(self.counts).decks + DECK * i)
     }
 
     fn card(&self, i: usize) -> CardRecord {
-        let n = self.counts;
-        if i >= n.cards {
+        if i >= self.counts.cards {
             return NO_CARD;
         }
-        card_at(self.bytes, n.pool + 14 * n.decks + 16 * i)
+        card_at(self.bytes, starts_of(self.counts).cards + CARD * i)
     }
 
     fn binding(&self, i: usize) -> BindingRecord {
-        let n = self.counts;
-        if i >= n.bindings {
+        if i >= self.counts.bindings {
             return NO_BINDING;
         }
-        binding_at(self.bytes, n.pool + 14 * n.decks + 16 * n.cards + 10 * i)
+        binding_at(self.bytes, starts_of(self.counts).bindings + BINDING * i)
     }
 
     fn task(&self, i: usize) -> TaskRecord {
-        let n = self.counts;
-        if i >= n.tasks {
+        if i >= self.counts.tasks {
             return NO_TASK;
         }
-        let tasks = n.pool + 14 * n.decks + 16 * n.cards + 10 * n.bindings;
-        task_at(self.bytes, tasks + 8 * i)
+        task_at(self.bytes, starts_of(self.counts).tasks + TASK * i)
     }
 
     fn assignment(&self, i: usize) -> AssignmentRecord {
-        let n = self.counts;
-        if i >= n.assignments {
+        if i >= self.counts.assignments {
             return NO_ASSIGNMENT;
         }
-        let tasks = n.pool + 14 * n.decks + 16 * n.cards + 10 * n.bindings;
-        assignment_at(self.bytes, tasks + 8 * n.tasks + 8 * i)
+        assignment_at(
+            self.bytes,
+            starts_of(self.counts).assignments + ASSIGNMENT * i,
+        )
     }
 }

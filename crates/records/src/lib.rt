@@ -48,43 +48,23 @@ impl Tables for RecordTables<'_> {
     }
 
     fn deck(&self, i: usize) -> DeckRecord {
-        if i < self.decks.len() {
-            self.decks[i]
-        } else {
-            NO_DECK
-        }
+        self.decks.get(i).copied().unwrap_or(NO_DECK)
     }
 
     fn card(&self, i: usize) -> CardRecord {
-        if i < self.cards.len() {
-            self.cards[i]
-        } else {
-            NO_CARD
-        }
+        self.cards.get(i).copied().unwrap_or(NO_CARD)
     }
 
     fn binding(&self, i: usize) -> BindingRecord {
-        if i < self.bindings.len() {
-            self.bindings[i]
-        } else {
-            NO_BINDING
-        }
+        self.bindings.get(i).copied().unwrap_or(NO_BINDING)
     }
 
     fn task(&self, i: usize) -> TaskRecord {
-        if i < self.tasks.len() {
-            self.tasks[i]
-        } else {
-            NO_TASK
-        }
+        self.tasks.get(i).copied().unwrap_or(NO_TASK)
     }
 
     fn assignment(&self, i: usize) -> AssignmentRecord {
-        if i < self.assignments.len() {
-            self.assignments[i]
-        } else {
-            NO_ASSIGNMENT
-        }
+        self.assignments.get(i).copied().unwrap_or(NO_ASSIGNMENT)
     }
 }
 

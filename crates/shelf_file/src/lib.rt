@@ -15,7 +15,8 @@ use judge::judgement_of;
 use tables::Cause;
 use views::{assignment_view, binding_view, card_view, listed_deck, task_view};
 
-/// The first cause for which a file is refused, if any: its parts come before its records.
+/// The first cause for which a file is refused, if any: its parts come before its records. (With
+/// `or_else` the closure would need a clause of its own, and this is shorter.)
 fn verdict_on(tables: &FileTables) -> Option<Cause>
     ensures { result ≡ verdict tables.now.bytes.now }
 {

@@ -1,4 +1,5 @@
-//! What a shelf hands out, made from the records of any tables.
+//! What a shelf hands out, made from the records of any tables. Each view has fields of its own, so
+//! a trait over the five would share no line.
 #![tactic(auto)]
 
 ghost use Rattle.std.specs.Prelude.{◌≡◌, IfSome};
@@ -43,13 +44,7 @@ pub fn listed_deck<T: Tables>(tables: &T, verdict: Option<Cause>, k: usize) -> O
     ensures lies { IfSome result (λ v. Lies (T.Tables.memory tables.now) v.address) }
 {
     match verdict {
-        None => {
-            if k < tables.counts().decks {
-                Some(deck_view(tables, k))
-            } else {
-                None
-            }
-        }
+        None => (k < tables.counts().decks).then(|| deck_view(tables, k)),
         Some(_) => None,
     }
 }
