@@ -12,14 +12,6 @@ use std::alloc::{AllocError, Global};
 use std::fs;
 use tables::Cause;
 
-/// The number of a refusal, or 0.
-fn number_of(cause: Option<Cause>) -> u8 {
-    match cause {
-        Some(cause) => cause.number(),
-        None => 0,
-    }
-}
-
 /// The numbers of a line.
 fn numbers(heap: Global, line: &str) -> anyhow::Result<Vec<usize>> {
     let mut all = Vec::new(heap);
@@ -31,10 +23,7 @@ fn numbers(heap: Global, line: &str) -> anyhow::Result<Vec<usize>> {
 
 /// The front of the base that is kept, with single bytes changed: a place and a byte for each.
 fn damaged(heap: Global, base: &[u8], keep: usize, changes: &[usize]) -> anyhow::Result<Vec<u8>> {
-    let mut file = Vec::new(heap);
-    for byte in base.iter().take(keep) {
-        file.push(*byte)?;
-    }
+    let mut file = base[..keep.min(base.len())].to_vec(heap)?;
     for change in changes.chunks(2) {
         let [place, value] = change else {
             return Err(anyhow!("a place without a byte"));
@@ -49,9 +38,10 @@ fn damaged(heap: Global, base: &[u8], keep: usize, changes: &[usize]) -> anyhow:
 
 /// Whether the file gets the number as a file, and its tables get it too where the parts are fine.
 fn agrees(heap: Global, file: &[u8], expected: usize) -> Result<bool, AllocError> {
-    let by_file = number_of(FileShelf::open(file).refusal());
+    let by_file = FileShelf::open(file).refusal().map_or(0, Cause::number);
     let copy = Loaded::copy(heap, &FileTables::of(file))?;
-    let by_records = number_of(RecordShelf::over(copy.lend()).refusal());
+    let records = RecordShelf::over(copy.lend());
+    let by_records = records.refusal().map_or(0, Cause::number);
     let same = if by_file < 44 {
         by_records == 0
     } else {

@@ -3,7 +3,7 @@
 #![tactic(auto)]
 
 use anyhow::anyhow;
-use decks::{BindingView, CardView, Kind, Part, Shelf, TaskView};
+use decks::{BindingView, CardView, Part, Shelf, TaskView};
 use file_tables::FileTables;
 use hex_text::bytes_of;
 use loaded::Loaded;
@@ -14,22 +14,11 @@ use std::alloc::{AllocError, Global};
 use std::fs;
 use tables::{Cause, Tables};
 
-/// The number of a refusal, or 0.
-fn number_of(cause: Option<Cause>) -> u8 {
-    match cause {
-        Some(cause) => cause.number(),
-        None => 0,
-    }
-}
-
 /// How many decks a shelf has.
 fn deck_count<S: Shelf>(shelf: &S) -> usize {
-    for k in 0..65_536 {
-        if let None = shelf.deck(k) {
-            return k;
-        }
-    }
-    65_536
+    (0..65_536)
+        .find(|k| shelf.deck(*k).is_none())
+        .unwrap_or(65_536)
 }
 
 /// One file of the list: the number that is expected, a label, and the bytes.
@@ -38,18 +27,15 @@ fn judged(rt: &HostRuntime, line: &str) -> anyhow::Result<()> {
     let Some((number, rest)) = line.split_once(' ') else {
         return Err(anyhow!("a line without a label"));
     };
-    let (label, hex) = match rest.split_once(' ') {
-        Some((label, hex)) => (label, hex),
-        None => (rest, ""),
-    };
+    let (label, hex) = rest.split_once(' ').unwrap_or((rest, ""));
     let expected = number.parse::<u8>()?;
     let file = bytes_of(heap, hex)?;
     let shelf = FileShelf::open(file.as_slice());
-    let by_file = number_of(shelf.refusal());
+    let by_file = shelf.refusal().map_or(0, Cause::number);
     let decks = deck_count(&shelf);
     let copy = Loaded::copy(heap, &FileTables::of(file.as_slice()))?;
     let records = RecordShelf::over(copy.lend());
-    let by_records = number_of(records.refusal());
+    let by_records = records.refusal().map_or(0, Cause::number);
     let same_decks = deck_count(&records) == decks;
     let word = if by_file == expected && same_decks {
         ""
@@ -62,47 +48,32 @@ fn judged(rt: &HostRuntime, line: &str) -> anyhow::Result<()> {
 
 /// A text as it is printed.
 fn shown<'a>(text: &Part<'a>) -> &'a str {
-    match std::str::from_utf8(text.bytes) {
-        Ok(text) => text,
-        Err(_) => "(no text)",
-    }
+    std::str::from_utf8(text.bytes).unwrap_or("(no text)")
 }
 
-fn kind_name(kind: Kind) -> &'static str {
-    match kind {
-        Kind::Noop => "noop",
-        Kind::Go => "go",
-        Kind::Prev => "prev",
-        Kind::Refresh => "refresh",
-    }
-}
-
-fn task_name(task: Option<TaskView>) -> &'static str {
+fn task_name(heap: Global, task: Option<TaskView>) -> Result<String, AllocError> {
     match task {
-        Some(task) => kind_name(task.kind),
-        None => "none",
+        Some(task) => format!(in heap; "{}", task.kind),
+        None => format!(in heap; "none"),
     }
 }
 
 /// A card's id and body.
 fn card_texts<'a>(card: Option<CardView<'a>>) -> (&'a str, &'a str) {
-    match card {
-        Some(card) => (shown(&card.id), shown(&card.body)),
-        None => ("none", "none"),
-    }
+    card.map_or(
+        ("none", "none"),
+        |card| (shown(&card.id), shown(&card.body)),
+    )
 }
 
 fn label_name<'a>(binding: Option<BindingView<'a>>) -> &'a str {
-    match binding {
-        Some(binding) => shown(&binding.label),
-        None => "none",
-    }
+    binding.map_or("none", |binding| shown(&binding.label))
 }
 
 fn described(heap: Global, answer: &Answer) -> Result<String, AllocError> {
     let (card, body) = card_texts(answer.card);
-    let forward = task_name(answer.forward);
-    let backward = task_name(answer.backward);
+    let forward = task_name(heap, answer.forward)?;
+    let backward = task_name(heap, answer.backward)?;
     let label = label_name(answer.binding);
     format!(in heap; "card {card} ({body}), forward {forward}, backward {backward}, label {label}")
 }

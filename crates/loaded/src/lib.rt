@@ -20,67 +20,11 @@ pub struct Loaded {
     assignments: Vec<AssignmentRecord>,
 }
 
-/// The decks, copied.
-fn copy_decks<T: Tables>(heap: Global, tables: &T) -> Result<Vec<DeckRecord>, AllocError>
-    ensures { IfOk result (λ v. v.items ≡ (T.Tables.tables tables.now).decks) }
+/// The pool, copied.
+fn copy_pool<T: Tables>(heap: Global, tables: &T) -> Result<Vec<u8>, AllocError>
+    ensures { IfOk result (λ v. v.items ≡ (T.Tables.tables tables.now).pool) }
 {
-    let end = tables.counts().decks;
-    let mut all = Vec::new(heap);
-    for i in 0..end {
-        all.push(tables.deck(i))?;
-    }
-    Ok(all)
-}
-
-/// The cards, copied.
-fn copy_cards<T: Tables>(heap: Global, tables: &T) -> Result<Vec<CardRecord>, AllocError>
-    ensures { IfOk result (λ v. v.items ≡ (T.Tables.tables tables.now).cards) }
-{
-    let end = tables.counts().cards;
-    let mut all = Vec::new(heap);
-    for i in 0..end {
-        all.push(tables.card(i))?;
-    }
-    Ok(all)
-}
-
-/// The bindings, copied.
-fn copy_bindings<T: Tables>(heap: Global, tables: &T) -> Result<Vec<BindingRecord>, AllocError>
-    ensures { IfOk result (λ v. v.items ≡ (T.Tables.tables tables.now).bindings) }
-{
-    let end = tables.counts().bindings;
-    let mut all = Vec::new(heap);
-    for i in 0..end {
-        all.push(tables.binding(i))?;
-    }
-    Ok(all)
-}
-
-/// The tasks, copied.
-fn copy_tasks<T: Tables>(heap: Global, tables: &T) -> Result<Vec<TaskRecord>, AllocError>
-    ensures { IfOk result (λ v. v.items ≡ (T.Tables.tables tables.now).tasks) }
-{
-    let end = tables.counts().tasks;
-    let mut all = Vec::new(heap);
-    for i in 0..end {
-        all.push(tables.task(i))?;
-    }
-    Ok(all)
-}
-
-/// The assignments, copied.
-fn copy_assignments<T: Tables>(
-    heap: Global,
-    tables: &T,
-) -> Result<Vec<AssignmentRecord>, AllocError>
-    ensures { IfOk result (λ v. v.items ≡ (T.Tables.tables tables.now).assignments) }
-{
-    let end = tables.counts().assignments;
-    let mut all = Vec::new(heap);
-    for i in 0..end {
-        all.push(tables.assignment(i))?;
-    }
-    Ok(all)
+    tables.pool().to_vec(heap)
 }
 
 impl Loaded {
@@ -88,12 +32,15 @@ impl Loaded {
     pub fn copy<T: Tables>(heap: Global, tables: &T) -> Result<Loaded, AllocError>
         ensures { IfOk result (λ l. copied l ≡ T.Tables.tables tables.now) }
     {
-        let pool = tables.pool().to_vec(heap)?;
-        let decks = copy_decks(heap, tables)?;
-        let cards = copy_cards(heap, tables)?;
-        let bindings = copy_bindings(heap, tables)?;
-        let tasks = copy_tasks(heap, tables)?;
-        let assignments = copy_assignments(heap, tables)?;
+        let pool = copy_pool(heap, tables)?;
+        let n = tables.counts();
+        let decks = (0..n.decks).map(|i| tables.deck(i)).collect(heap)?;
+        let cards = (0..n.cards).map(|i| tables.card(i)).collect(heap)?;
+        let bindings = (0..n.bindings).map(|i| tables.binding(i)).collect(heap)?;
+        let tasks = (0..n.tasks).map(|i| tables.task(i)).collect(heap)?;
+        let assignments = (0..n.assignments)
+            .map(|i| tables.assignment(i))
+            .collect(heap)?;
         Ok(Loaded {
             pool,
             decks,
