@@ -1,16 +1,17 @@
 -- What pairs in memory mean. Assumes nothing.
-use Rattle.std.specs.Prelude.{Bool, true, ◌&&◌, List, [], ◌∷◌, take}
+use Rattle.std.specs.Prelude.{Bool, true, ◌&&◌, List, [], ◌∷◌}
 use Rattle.names.specs.Names.{Bytes}
+use Rattle.short_text.specs.Texts.{text_of}
 use Rattle.store.specs.Vars.{Vars, lacks}
 use Rattle.assignments.specs.declared.pair.Pair.{Pair}
 
 -- the name of a pair
 abbrev pub name_of : Pair → Bytes
-name_of p = take p.name_len p.name
+name_of p = text_of 16 p.name
 
 -- the value of a pair
 abbrev pub value_of : Pair → Bytes
-value_of p = take p.value_len p.value
+value_of p = text_of 64 p.value
 
 -- a list of pairs as names with values
 abbrev pub pairs_of : List Pair → Vars

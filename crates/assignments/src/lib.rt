@@ -7,12 +7,13 @@ ghost use Rattle.store.specs.declared.Refusal.TheVariants.{Unstorable};
 ghost use Rattle.store.specs.Limits.{within};
 ghost use Rattle.assignments.specs.Joint.{put_all, added, jointly};
 ghost use Rattle.assignments.specs.Unsetting.{without_all, lacks_all};
-ghost use Rattle.assignments.specs.Pairs.{name_of, value_of, pairs_of, distinct};
+ghost use Rattle.assignments.specs.Pairs.{name_of, value_of, pairs_of};
 ghost use Rattle.assignments.specs.Listed.{listed};
 ghost use Rattle.assignments.specs.Laws.{InTurn};
 ghost use Rattle.store.specs.Vars.{size, without};
 
 use names::is_storable;
+use short_text::Short;
 use store::{Refusal, Store, Totals};
 
 mod list;
@@ -20,14 +21,6 @@ mod pair;
 
 pub use list::Assignments;
 pub use pair::Pair;
-
-/// Copies the bytes to the front.
-fn copy_front(to: &mut [u8], bytes: &[u8])
-    requires { length bytes.now ≤ length to.old }
-    ensures { take (length bytes.now) to.new ≡ bytes.now }
-{
-    to[0..bytes.len()].copy_from_slice(bytes);
-}
 
 impl Pair {
     /// The pair of a name and a value, refused if it cannot be stored.
@@ -37,27 +30,17 @@ impl Pair {
         if !is_storable(name, value) {
             return Err(Refusal::Unstorable);
         }
-        let mut held_name = [0u8; 16];
-        copy_front(&mut held_name, name);
-        let mut held_value = [0u8; 64];
-        copy_front(&mut held_value, value);
         Ok(Pair {
-            name: held_name,
-            name_len: name.len() as u8,
-            value: held_value,
-            value_len: value.len() as u8,
+            name: Short::of(name),
+            value: Short::of(value),
         })
     }
 
     /// A pair to fill memory with: the name `_` with no value.
     fn blank() -> Pair {
-        let mut name = [0u8; 16];
-        name[0] = b'_';
         Pair {
-            name,
-            name_len: 1,
-            value: [0; 64],
-            value_len: 0,
+            name: Short::of(b"_"),
+            value: Short::empty(),
         }
     }
 
@@ -65,14 +48,14 @@ impl Pair {
     pub fn name(&self) -> &[u8]
         ensures { result.now ≡ name_of self.now }
     {
-        &self.name[0..self.name_len as usize]
+        self.name.as_bytes()
     }
 
     /// The value, empty where the pair unsets.
     pub fn value(&self) -> &[u8]
         ensures { result.now ≡ value_of self.now }
     {
-        &self.value[0..self.value_len as usize]
+        self.value.as_bytes()
     }
 }
 
@@ -101,11 +84,29 @@ impl Assignments {
         self.count = kept + 1;
     }
 
+    /// The assignments in the list, in the order in which they came.
+    fn pairs(&self) -> &[Pair]
+        ensures listed { pairs_of result.now ≡ listed self.now }
+        ensures few { length result.now ≤ 16 }
+    {
+        &self.list[..self.count]
+    }
+
     /// Whether the variables after all the assignments would be within the store's limits.
     pub fn fits<S: Store>(&self, store: &S) -> bool
         ensures { result ≡ within (S.Store.limits store.now) (put_all (S.Store.meaning store.now) (listed self.now)) }
     {
-        all_fit(store, &self.list[0..self.count])
+        let assigned = self.pairs();
+        let mut total = Totals {
+            names: store.count(),
+            bytes: store.bytes(),
+        };
+        for p in assigned {
+            let name = p.name();
+            let old = store.value(name).len();
+            total = total.after(name.len(), old, p.value().len());
+        }
+        total.within(store.most_names(), store.most_bytes())
     }
 
     /// Makes all the assignments, or none where the variables after all of them would exceed a limit.
@@ -116,7 +117,34 @@ impl Assignments {
         ensures answer { result ≡ jointly (S.Store.limits store.old) (S.Store.meaning store.old) (listed self.now) }
         ensures outcome { elim result [ Ok _ ↦ S.Store.meaning store.new ≡ put_all (S.Store.meaning store.old) (listed self.now) | Err _ ↦ store.new ≡ store.old ] }
     {
-        make_all(store, &self.list[0..self.count])
+        if !self.fits(store) {
+            return Err(Refusal::NoRoom);
+        }
+        self.unset_all(store);
+        self.set_all(store);
+        Ok(())
+    }
+
+    /// Unsets every name that is assigned.
+    fn unset_all<S: Store>(&self, store: &mut S)
+        ensures limits { S.Store.limits store.new ≡ S.Store.limits store.old }
+        ensures outcome { S.Store.meaning store.new ≡ without_all (S.Store.meaning store.old) (listed self.now) }
+    {
+        for p in self.pairs() {
+            let _ = store.set(p.name(), b"");
+        }
+    }
+
+    /// Sets every pair, where none of the names is set and the outcome is within the limits: so none is refused.
+    fn set_all<S: Store>(&self, store: &mut S)
+        requires unset { lacks_all (S.Store.meaning store.old) (listed self.now) ≡ true }
+        requires fits { within (S.Store.limits store.old) (put_all (S.Store.meaning store.old) (listed self.now)) ≡ true }
+        ensures limits { S.Store.limits store.new ≡ S.Store.limits store.old }
+        ensures outcome { S.Store.meaning store.new ≡ put_all (S.Store.meaning store.old) (listed self.now) }
+    {
+        for p in self.pairs() {
+            let _ = store.set(p.name(), p.value());
+        }
     }
 }
 
@@ -134,61 +162,4 @@ fn keep_others(pairs: &mut [Pair], name: &[u8]) -> usize
         }
     }
     others
-}
-
-/// Unsets the name of every pair.
-fn unset_all<S: Store>(store: &mut S, pairs: &[Pair])
-    ensures limits { S.Store.limits store.new ≡ S.Store.limits store.old }
-    ensures outcome { S.Store.meaning store.new ≡ without_all (S.Store.meaning store.old) (pairs_of pairs.now) }
-{
-    for p in pairs {
-        let _ = store.set(p.name(), b"");
-    }
-}
-
-/// Sets pairs whose names are not set, where the outcome is within the limits: so none is refused.
-fn set_all<S: Store>(store: &mut S, pairs: &[Pair])
-    requires apart { distinct (pairs_of pairs.now) ≡ true }
-    requires unset { lacks_all (S.Store.meaning store.old) (pairs_of pairs.now) ≡ true }
-    requires fits { within (S.Store.limits store.old) (put_all (S.Store.meaning store.old) (pairs_of pairs.now)) ≡ true }
-    ensures limits { S.Store.limits store.new ≡ S.Store.limits store.old }
-    ensures outcome { S.Store.meaning store.new ≡ put_all (S.Store.meaning store.old) (pairs_of pairs.now) }
-{
-    for p in pairs {
-        let _ = store.set(p.name(), p.value());
-    }
-}
-
-/// Whether the variables after all the pairs would be within the limits.
-fn all_fit<S: Store>(store: &S, pairs: &[Pair]) -> bool
-    requires apart { distinct (pairs_of pairs.now) ≡ true }
-    requires few { length pairs.now ≤ 16 }
-    ensures { result ≡ within (S.Store.limits store.now) (put_all (S.Store.meaning store.now) (pairs_of pairs.now)) }
-{
-    let mut total = Totals {
-        names: store.count(),
-        bytes: store.bytes(),
-    };
-    for p in pairs {
-        let name = p.name();
-        let old = store.value(name).len();
-        total = total.after(name.len(), old, p.value().len());
-    }
-    total.within(store.most_names(), store.most_bytes())
-}
-
-/// Makes all the assignments, or none.
-fn make_all<S: Store>(store: &mut S, pairs: &[Pair]) -> Result<(), Refusal>
-    requires apart { distinct (pairs_of pairs.now) ≡ true }
-    requires few { length pairs.now ≤ 16 }
-    ensures limits { S.Store.limits store.new ≡ S.Store.limits store.old }
-    ensures answer { result ≡ jointly (S.Store.limits store.old) (S.Store.meaning store.old) (pairs_of pairs.now) }
-    ensures outcome { elim result [ Ok _ ↦ S.Store.meaning store.new ≡ put_all (S.Store.meaning store.old) (pairs_of pairs.now) | Err _ ↦ store.new ≡ store.old ] }
-{
-    if !all_fit(store, pairs) {
-        return Err(Refusal::NoRoom);
-    }
-    unset_all(store, pairs);
-    set_all(store, pairs);
-    Ok(())
 }

@@ -1,6 +1,7 @@
 //! Runs slot tables at the edges of their limits and prints what they answer.
 #![tactic(auto)]
 
+use short_text::Short;
 use slots::{Slot, SlotTable};
 use std::io;
 use store::{Refusal, Store};
@@ -10,10 +11,7 @@ const LONG: [u8; 64] = [b'z'; 64];
 
 /// The number of a refusal, 0 where there is none.
 fn number(answer: Result<(), Refusal>) -> u8 {
-    match answer {
-        Ok(()) => 0,
-        Err(refusal) => refusal.number(),
-    }
+    answer.err().map_or(0, Refusal::number)
 }
 
 /// A name of 16 bytes with two digits at its end.
@@ -26,13 +24,9 @@ fn name(i: u8) -> [u8; 16] {
 
 /// Sets so many names to the longest value, and says how many of them were not refused.
 fn fill<S: Store>(store: &mut S, names: u8) -> usize {
-    let mut taken = 0usize;
-    for i in 0..names {
-        if store.set(&name(i), &LONG).is_ok() {
-            taken = taken.saturating_add(1);
-        }
-    }
-    taken
+    (0..names)
+        .filter(|i| store.set(&name(*i), &LONG).is_ok())
+        .count()
 }
 
 /// The values of two names.
@@ -111,10 +105,14 @@ fn edges<S: Store>(rt: &impl Print, store: &mut S) -> io::Result<()> {
 /// A slot as it may lie in memory that was used for something else.
 fn junk(text: &[u8; 16], name_len: u8, byte: u8, value_len: u8) -> Slot {
     Slot {
-        name: *text,
-        name_len,
-        value: [byte; 64],
-        value_len,
+        name: Short {
+            bytes: *text,
+            len: name_len,
+        },
+        value: Short {
+            bytes: [byte; 64],
+            len: value_len,
+        },
     }
 }
 
@@ -159,8 +157,8 @@ fn wiped(rt: &impl Print) -> io::Result<()> {
     let mut memory = [junk(b"tttttttttttttttt", 1, b'p', 3); 65];
     let mut table = SlotTable::new(&mut memory[0..65]);
     table.clear();
-    let in_table = memory[63].value[0];
-    let past = memory[64].value[0];
+    let in_table = memory[63].value.bytes[0];
+    let past = memory[64].value.bytes[0];
     println!(rt; "cleared: byte {in_table} in the 64th slot, {past} in the 65th")
 }
 

@@ -1,14 +1,15 @@
 -- The part of the memory that is the table's, and what is written there. Assumes nothing.
-use Rattle.std.proofs.Common.{◌≡◌, ℕ, zero, suc, ◌+◌, ◌<◌, ◌≤◌, min, Bool, true, false, cond, not, ◌&&◌, eqb, List, [], ◌∷◌, ◌++◌, map, length, get_or, take, drop, set, Some, None, sym, refl, ap, ◌∙◌, ⊎_elim, arith}
+use Rattle.std.proofs.Common.{◌≡◌, ℕ, zero, suc, ◌+◌, ◌<◌, ◌≤◌, min, Bool, true, false, cond, not, ◌&&◌, eqb, List, [], ◌∷◌, ◌++◌, map, length, get_or, take, drop, set, replicate, Some, None, sym, refl, ap, ◌∙◌, ⊎_elim, arith}
 use Rattle.std.specs.Str.{bytes_eq}
-use Rattle.std.proofs.lemmas.List.{take_at, take_all, drop_all, set-get_or, get_or_default}
+use Rattle.std.proofs.lemmas.List.{take_all, drop_all, set-get_or, get_or_default, append-nil}
 use Rattle.std.proofs.lemmas.List.Edits.{map_over_more}
 use Rattle.std.proofs.lemmas.Bool.{and_from, cases_lt, cond-true, cond-false}
 use Rattle.names.specs.Names.{Bytes, storable}
 use Rattle.store.proofs.Order.{same_refl}
 use Rattle.store.proofs.Assigns.{storable-lengths}
 use Rattle.slot_rows.specs.declared.Slot.{Slot}
-use Rattle.slot_rows.specs.Slots.{name_of, value_of, full, holds_name, padded, slot_of, slot_for, freed, empty_slot}
+use Rattle.short_text.proofs.Kept.{text-back}
+use Rattle.slot_rows.specs.Slots.{name_of, value_of, full, holds_name, slot_of, slot_for, freed, empty_slot}
 use Rattle.slot_rows.specs.Places.{no_slot}
 use Rattle.slot_rows.specs.Table.{table_of, changed}
 
@@ -54,10 +55,19 @@ change-more f xs ys i t l n e c =
 pub keep-more : (f : Slot → Slot) (xs ys : List Slot) (i : ℕ) → i < length xs → length ys ≡ length xs → ys ≡ map f (take i xs) ++ drop i xs → get_or ys i no_slot ≡ f (get_or ys i no_slot) → ys ≡ map f (take (i + 1) xs) ++ drop (i + 1) xs
 keep-more f xs ys i l n e c = sym (set-get_or ys i no_slot) ∙ change-more f xs ys i (get_or ys i no_slot) l n e c
 
-pub change-all : (f : Slot → Slot) (xs ys : List Slot) (i n : ℕ) → ys ≡ map f (take i xs) ++ drop i xs → i ≤ n → n ≤ i → n ≡ min (length xs) 64 → ys ≡ changed f xs
-change-all f xs ys i n e l m q =
-    let k : i ≡ min (length xs) 64 = omega arith in
-    e ∙ (ap (λ j. map f (take j xs) ++ drop j xs) k ∙ (ap (λ z. map f z ++ drop (min (length xs) 64) xs) (take-used 64 xs) ∙ ap (λ z. map f (take 64 xs) ++ z) (drop-used 64 xs)))
+-- the table was changed, and the slots behind it stay
+pub changed_to : (f : Slot → Slot) (xs ys : List Slot) (n : ℕ) → n ≡ min (length xs) 64 → ys ≡ map f (take n xs) → ys ++ drop n xs ≡ changed f xs
+changed_to f xs ys n q e =
+    ap (λ z. z ++ drop n xs) e ∙ (ap (λ j. map f (take j xs) ++ drop j xs) q ∙
+    (ap (λ z. map f z ++ drop (min (length xs) 64) xs) (take-used 64 xs) ∙ ap (λ z. map f (take 64 xs) ++ z) (drop-used 64 xs)))
+
+pub over_all : (f : Slot → Slot) (xs ys : List Slot) (i : ℕ) → length xs ≤ i → ys ≡ map f (take i xs) ++ drop i xs → ys ≡ map f xs
+over_all f xs ys i l e =
+    e ∙ (ap (λ z. map f z ++ drop i xs) (take_all i xs l) ∙ (ap (λ z. map f xs ++ z) (drop_all i xs l) ∙ append-nil (map f xs)))
+
+pub map-const : (s : Slot) (xs : List Slot) → map (λ _. s) xs ≡ replicate (length xs) s
+map-const s [] = refl
+map-const s (x ∷ xs) = ap (λ z. s ∷ z) (map-const s xs)
 
 pub freed-held : (k : Bytes) (s t : Slot) → holds_name k s ≡ true → t ≡ empty_slot → t ≡ freed k s
 freed-held k s t h e = e ∙ sym (cond-true (holds_name k s) _ _ h)
@@ -67,15 +77,11 @@ freed-other k s h = sym (cond-false (holds_name k s) _ _ h)
 
 -- a pair is read back from the slot that it is written as
 
-front-padded : (n : ℕ) (a : Bytes) → length a ≤ n → take (min (length a) n) (padded n a) ≡ a
-front-padded n a l =
-    let m : min (length a) n ≡ length a = omega arith in ap (λ z. take z (padded n a)) m ∙ take_at a _ (length a) refl
-
 pub name_back : (k v : Bytes) → storable k v ≡ true → name_of (slot_of k v) ≡ k
-name_back k v s = front-padded 16 k (storable-lengths k v s).0
+name_back k v s = text-back 16 k (storable-lengths k v s).0
 
 pub value-back : (k v : Bytes) → storable k v ≡ true → value_of (slot_of k v) ≡ v
-value-back k v s = front-padded 64 v (storable-lengths k v s).1
+value-back k v s = text-back 64 v (storable-lengths k v s).1
 
 pub slot-holds : (k v : Bytes) → storable k v ≡ true → not (eqb (length v) 0) ≡ true → holds_name k (slot_of k v) ≡ true
 slot-holds k v s e =

@@ -1,8 +1,12 @@
 -- What the slots of a table mean: where a pair is written, unset and found. Assumes nothing.
-use Rattle.std.proofs.Common.{◌≡◌, ℕ, zero, suc, ◌+◌, ◌*◌, ◌<◌, ◌≤◌, min, Bool, true, false, cond, not, ◌&&◌, List, [], ◌∷◌, ◌++◌, map, length, get_or, take, drop, set, is_some, Some, None, Option, sym, refl, ap, ◌∙◌, arith, drop-cons}
+use Rattle.std.proofs.Common.{◌≡◌, ℕ, zero, suc, ◌+◌, ◌*◌, ◌<◌, ◌≤◌, min, Bool, true, false, cond, not, ◌&&◌, List, [], ◌∷◌, ◌++◌, map, length, get_or, take, drop, set, is_some, Some, None, Option, sym, refl, ap, ◌∙◌, subst, ⊎_elim, arith, drop-cons}
 use Rattle.std.specs.Str.{bytes_eq}
+use Rattle.std.specs.Prelude.{MatchOption, position, nat_lt}
+use Rattle.std.specs.List.{position_or_len}
+use Rattle.std.proofs.lemmas.Bool.Decides.{nat_tests}
+use Rattle.std.proofs.lemmas.List.Quantifiers.{position-Some}
 use Rattle.std.proofs.lemmas.List.{length-take, take-append-drop, set_split, take_more, append-nil}
-use Rattle.std.proofs.lemmas.Bool.{both_ways, and_parts, and_from, and_left, and_right, not-true, not-false, cond-true, cond-false, true≢false}
+use Rattle.std.proofs.lemmas.Bool.{both_ways, and_parts, and_from, and_left, and_right, not-true, not-false, cond-true, cond-false, cases_lt, true≢false}
 use Rattle.names.specs.Names.{Bytes, storable}
 use Rattle.store.specs.Vars.{Vars, lacks, without, assign, look, size, weight, sorted, sound}
 use Rattle.store.proofs.Order.{same_refl, same-is}
@@ -11,7 +15,7 @@ use Rattle.store.proofs.Commute.{without-assign_same, without-assign-other, assi
 use Rattle.slot_rows.specs.declared.Slot.{Slot}
 use Rattle.slot_rows.specs.Slots.{name_of, value_of, full, holds_name, freed, empty_slot}
 use Rattle.slot_rows.specs.Rows.{reads, absent, counts}
-use Rattle.slot_rows.specs.Places.{no_slot, First, Finds, Vacates, Spare, Spares, Serves, Crowded, Places}
+use Rattle.slot_rows.specs.Places.{no_slot, First, Finds, Spare, Spares, Serves, Crowded, Places}
 
 -- every row of slots means variables in order, each of which can be stored
 
@@ -229,10 +233,10 @@ found_none k xs (Some i) b f e = not-true b (sym e) ∙ sym (held-not-absent k x
 
 -- what one slot holds is short
 pub name-short : (s : Slot) → length (name_of s) ≤ 16
-name-short s = let l = length-take (min s.name_len 16) s.name in omega arith
+name-short s = let l = length-take (min s.name.len 16) s.name.bytes in omega arith
 
 pub value-short : (s : Slot) → length (value_of s) ≤ 64
-value-short s = let l = length-take (min s.value_len 64) s.value in omega arith
+value-short s = let l = length-take (min s.value.len 64) s.value.bytes in omega arith
 
 -- a name that finds no place makes one name too many
 pub crowded-more : (k : Bytes) (xs : List Slot) (v : Bytes) → Crowded k xs → is_nil v ≡ false → length xs < size (assign (reads xs) k v)
@@ -243,5 +247,54 @@ pub spares_places : (k : Bytes) (xs : List Slot) (o : Option ℕ) → absent k x
 spares_places k xs None a s = record { unheld = a; filled = s }
 spares_places k xs (Some i) a s = spare_serves k xs i s a
 
-pub vacant_spare : (xs : List Slot) (i : ℕ) → Vacates xs (Some i) → Spare xs i
-vacant_spare xs i v = record { within = v.0; dead = and_left _ _ v.1 }
+-- what a search of the slots finds
+
+absent_below : (k : Bytes) (xs : List Slot) (i : ℕ) → ((j : ℕ) → j < i → holds_name k (get_or xs j no_slot) ≡ false) → absent k (take i xs) ≡ true
+absent_below k xs zero f = refl
+absent_below k [] (suc i) f = refl
+absent_below k (s ∷ ss) (suc i) f =
+    and_from _ _ (ap not (f 0 (omega arith))) (absent_below k ss i (λ j l. f (suc j) (omega arith)))
+
+absent-whole : (k : Bytes) (xs : List Slot) → length xs ≤ position_or_len (holds_name k) xs → absent k xs ≡ true
+absent-whole k [] l = refl
+absent-whole k (s ∷ ss) l = go (holds_name k s) refl (absent-whole k ss)
+  where
+    go : (t : Bool) → holds_name k s ≡ t → (length ss ≤ position_or_len (holds_name k) ss → absent k ss ≡ true) → absent k (s ∷ ss) ≡ true
+    go true q rest = let m : position_or_len (holds_name k) (s ∷ ss) ≡ 0 = rw q refl in absurd (omega arith)
+    go false q rest =
+        let m : position_or_len (holds_name k) (s ∷ ss) ≡ 1 + position_or_len (holds_name k) ss = rw q refl in
+        and_from _ _ (ap not q) (rest (omega arith))
+
+absent-nowhere : (k : Bytes) (xs : List Slot) → position (holds_name k) xs ≡ None → absent k xs ≡ true
+absent-nowhere k xs e =
+    let n = position_or_len (holds_name k) xs in
+    ⊎_elim
+    (λ l. let t : nat_lt n (length xs) ≡ true = grind (arith, nat_tests) in
+    let bad : Some n ≡ None = sym (cond-true (nat_lt n (length xs)) (Some n) None t) ∙ e in
+    cc)
+    (λ l. absent-whole k xs l) (cases_lt n (length xs))
+
+pub finds_position : (k : Bytes) (xs : List Slot) → Finds k xs (position (holds_name k) xs)
+finds_position k xs =
+    let P : Option ℕ → Type 0 = λ o. position (holds_name k) xs ≡ o → Finds k xs o in
+    elim (position (holds_name k) xs) as P [
+      | None ↦ λ e. absent-nowhere k xs e
+      | Some i ↦ λ e. let s = position-Some (holds_name k) xs i no_slot e in record { within = s.0; here = s.1; ahead = absent_below k xs i s.2 }
+    ] refl
+
+pub finds_at : (k : Bytes) (xs : List Slot) (o : Option ℕ) → o ≡ position (holds_name k) xs → Finds k xs o
+finds_at k xs o e = subst (Finds k xs) (sym e) (finds_position k xs)
+
+pub vacant_at : (xs : List Slot) (i : ℕ) → position (λ s. not (full s)) xs ≡ Some i → Spare xs i
+vacant_at xs i e =
+    let s = position-Some (λ s. not (full s)) xs i no_slot e in record { within = s.0; dead = and_left _ _ (not-true _ s.1) }
+
+-- a place, or else another
+
+pub place_else : (k : Bytes) (xs : List Slot) (P : Type 0) (o r : Option ℕ) → o ≡ position (holds_name k) xs → MatchOption o P (λ i. r ≡ Some i) → (P → Spares xs r) → Places k xs r
+place_else k xs P None r e m s = spares_places k xs r (finds_at k xs None e) (s m)
+place_else k xs P (Some i) r e m s = subst (Places k xs) (sym m) (first_serves k xs i (finds_at k xs (Some i) e))
+
+pub spare_else : (xs : List Slot) (P : Type 0) (o r : Option ℕ) → o ≡ position (λ s. not (full s)) xs → MatchOption o P (λ i. r ≡ Some i) → (P → Spares xs r) → Spares xs r
+spare_else xs P None r e m s = s m
+spare_else xs P (Some i) r e m s = subst (Spares xs) (sym m) (vacant_at xs i (sym e))

@@ -8,7 +8,7 @@ use Rattle.slot_rows.specs.Rows.{reads, absent, counts}
 
 -- what is read past the last slot
 abbrev pub no_slot : Slot
-no_slot = record { name = []; name_len = 0; value = []; value_len = 0 }
+no_slot = record { name = record { bytes = []; len = 0 }; value = record { bytes = []; len = 0 } }
 
 -- the first slot that holds the name stands at the place
 pub record First (k : Bytes) (xs : List Slot) (i : ℕ) : Type 0 where
@@ -25,11 +25,6 @@ Finds k xs (Some i) = First k xs i
 pub record Spare (xs : List Slot) (i : ℕ) : Type 0 where
   pub within : i < length xs
   pub dead : counts (take i xs) (slice_index_or xs i no_slot) ≡ false
-
--- a slot that is not full, if the answer has a place
-abbrev pub Vacates : List Slot → Option ℕ → Type 0
-Vacates xs None = Unit {0}
-Vacates xs (Some i) = (i < length xs) × (full (slice_index_or xs i no_slot) ≡ false)
 
 -- a slot that does not count, or none where there are as many names as slots
 abbrev pub Spares : List Slot → Option ℕ → Type 0

@@ -1,16 +1,17 @@
 -- One slot of a table: a name and a value, each with its length. Assumes nothing.
-use Rattle.std.specs.Prelude.{ℕ, ◌-◌, min, Bool, cond, not, ◌&&◌, [], ◌++◌, length, take, replicate, Some, None, Option, ◌==◌}
+use Rattle.std.specs.Prelude.{Bool, cond, not, ◌&&◌, [], length, Some, None, Option, ◌==◌}
 use Rattle.std.specs.Str.{bytes_eq}
 use Rattle.names.specs.Names.{Bytes, storable}
+use Rattle.short_text.specs.Texts.{text_of, short_of}
 use Rattle.slot_rows.specs.declared.Slot.{Slot}
 
 -- the name in a slot; a length over 16 counts as 16
 abbrev pub name_of : Slot → Bytes
-name_of s = take (min s.name_len 16) s.name
+name_of s = text_of 16 s.name
 
 -- the value in a slot; a length over 64 counts as 64
 abbrev pub value_of : Slot → Bytes
-value_of s = take (min s.value_len 64) s.value
+value_of s = text_of 64 s.value
 
 -- a slot is full if it holds a pair that can be stored, whose value is not empty
 abbrev pub full : Slot → Bool
@@ -20,13 +21,9 @@ full s = storable (name_of s) (value_of s) && not (length (value_of s) == 0)
 abbrev pub holds_name : Bytes → Slot → Bool
 holds_name k s = full s && bytes_eq k (name_of s)
 
--- bytes in memory of some size, with zeros after them
-abbrev pub padded : ℕ → Bytes → Bytes
-padded n xs = xs ++ replicate (n - length xs) 0
-
 -- the slot that a pair is written as
 abbrev pub slot_of : Bytes → Bytes → Slot
-slot_of k v = record { name = padded 16 k; name_len = length k; value = padded 64 v; value_len = length v }
+slot_of k v = record { name = short_of 16 k; value = short_of 64 v }
 
 -- the slot for a pair, none where it cannot be stored
 abbrev pub slot_for : Bytes → Bytes → Option Slot

@@ -1,14 +1,15 @@
 //! The slots of a table, each with a name and a value, and what a row of them means.
 #![tactic(auto)]
 
-ghost use Rattle.std.specs.Prelude.{◌≡◌, ◌<◌, ◌≤◌, min, length, take, slice_index_or};
+ghost use Rattle.std.specs.Prelude.{◌≡◌, ◌≤◌, min, not, length, position};
 ghost use Rattle.store.specs.Vars.{size, weight};
 ghost use Rattle.slot_rows.specs.Rows.{reads, counts};
-ghost use Rattle.slot_rows.specs.Places.{no_slot, Finds, Vacates, Spares, Places};
+ghost use Rattle.slot_rows.specs.Places.{Spares, Places};
 ghost use Rattle.slot_rows.specs.Table.{table_of, changed};
 ghost use Rattle.slot_rows.specs.Slots.{name_of, value_of, full, slot_for, empty_slot, freed, holds_name};
 
 use names::is_storable;
+use short_text::Short;
 use store::Totals;
 
 /// How many slots a table uses at most.
@@ -17,10 +18,8 @@ pub const MOST_SLOTS: usize = 64;
 /// One slot: a name and a value, each with its length.
 #[derive(Clone, Copy)]
 pub struct Slot {
-    pub name: [u8; 16],
-    pub name_len: u8,
-    pub value: [u8; 64],
-    pub value_len: u8,
+    pub name: Short<16>,
+    pub value: Short<64>,
 }
 
 impl Slot {
@@ -29,10 +28,8 @@ impl Slot {
         ensures { result ≡ empty_slot }
     {
         Slot {
-            name: [0; 16],
-            name_len: 0,
-            value: [0; 64],
-            value_len: 0,
+            name: Short::empty(),
+            value: Short::empty(),
         }
     }
 
@@ -40,16 +37,14 @@ impl Slot {
     pub fn name(&self) -> &[u8]
         ensures { result.now ≡ name_of self.now }
     {
-        let n = (self.name_len as usize).min(16);
-        &self.name[0..n]
+        self.name.as_bytes()
     }
 
     /// The value in the slot; a length over 64 counts as 64.
     pub fn value(&self) -> &[u8]
         ensures { result.now ≡ value_of self.now }
     {
-        let n = (self.value_len as usize).min(64);
-        &self.value[0..n]
+        self.value.as_bytes()
     }
 
     /// Whether the slot holds a pair: one that can be stored, whose value is not empty.
@@ -73,54 +68,40 @@ impl Slot {
         if !is_storable(name, value) {
             return None;
         }
-        let mut slot = Slot::empty();
-        slot.name[0..name.len()].copy_from_slice(name);
-        slot.name_len = name.len() as u8;
-        slot.value[0..value.len()].copy_from_slice(value);
-        slot.value_len = value.len() as u8;
-        Some(slot)
+        Some(Slot {
+            name: Short::of(name),
+            value: Short::of(value),
+        })
     }
 }
 
 /// The place of the first slot that holds the name.
 pub fn find(slots: &[Slot], name: &[u8]) -> Option<usize>
-    ensures { Finds name.now slots.now result }
+    ensures { result ≡ position (holds_name name.now) slots.now }
 {
-    for (i, slot) in slots.iter().enumerate() {
-        if slot.holds(name) {
-            return Some(i);
-        }
-    }
-    None
+    slots.iter().position(|slot| slot.holds(name))
 }
 
-/// Whether the slot at the place counts: it is full, and no slot before it holds its name.
-fn counts_at(slots: &[Slot], i: usize) -> bool
-    requires within { i < length slots.now }
-    ensures { result ≡ counts (take i slots.now) (slice_index_or slots.now i no_slot) }
+/// Whether a slot behind those of the front counts: it is full, and none of them holds its name.
+fn counts(front: &[Slot], slot: &Slot) -> bool
+    ensures { result ≡ counts front.now slot.now }
 {
-    let slot = &slots[i];
-    slot.is_full() && find(&slots[0..i], slot.name()).is_none()
+    slot.is_full() && find(front, slot.name()).is_none()
 }
 
 /// The place of the first slot that is not full.
 fn vacant(slots: &[Slot]) -> Option<usize>
-    ensures { Vacates slots.now result }
+    ensures { result ≡ position (λ s. not (full s)) slots.now }
 {
-    for (i, slot) in slots.iter().enumerate() {
-        if !slot.is_full() {
-            return Some(i);
-        }
-    }
-    None
+    slots.iter().position(|slot| !slot.is_full())
 }
 
 /// The place of the first slot that does not count. Where there is none, there are as many names as slots.
 fn shadowed(slots: &[Slot]) -> Option<usize>
     ensures { Spares slots.now result }
 {
-    for i in 0..slots.len() {
-        if !counts_at(slots, i) {
+    for (i, slot) in slots.iter().enumerate() {
+        if !counts(&slots[..i], slot) {
             return Some(i);
         }
     }
@@ -131,20 +112,14 @@ fn shadowed(slots: &[Slot]) -> Option<usize>
 fn spare(slots: &[Slot]) -> Option<usize>
     ensures { Spares slots.now result }
 {
-    match vacant(slots) {
-        Some(i) => Some(i),
-        None => shadowed(slots),
-    }
+    vacant(slots).or_else(|| shadowed(slots))
 }
 
 /// Where a pair of the name is to be written: at the name's own place, else in a slot that does not count.
 pub fn place(slots: &[Slot], name: &[u8]) -> Option<usize>
     ensures { Places name.now slots.now result }
 {
-    match find(slots, name) {
-        Some(i) => Some(i),
-        None => spare(slots),
-    }
+    find(slots, name).or_else(|| spare(slots))
 }
 
 /// How many of so many slots a table uses: all of them, but 64 at most.
@@ -159,7 +134,7 @@ pub fn used(slots: &[Slot]) -> &[Slot]
     ensures front { result.now ≡ table_of slots.now }
     ensures few { length result.now ≤ 64 }
 {
-    &slots[0..used_len(slots.len())]
+    &slots[..used_len(slots.len())]
 }
 
 /// How many names the table means, and how many bytes these and their values have.
@@ -170,9 +145,8 @@ pub fn totals(slots: &[Slot]) -> Totals
     let table = used(slots);
     let mut names = 0;
     let mut bytes = 0;
-    for i in 0..table.len() {
-        if counts_at(table, i) {
-            let slot = &table[i];
+    for (i, slot) in table.iter().enumerate() {
+        if counts(&table[..i], slot) {
             names += 1;
             bytes += slot.name().len() + slot.value().len();
         }
@@ -184,9 +158,10 @@ pub fn totals(slots: &[Slot]) -> Totals
 pub fn free(slots: &mut [Slot], name: &[u8])
     ensures { slots.new ≡ changed (freed name.now) slots.old }
 {
-    for i in 0..used_len(slots.len()) {
-        if slots[i].holds(name) {
-            slots[i] = Slot::empty();
+    let used = used_len(slots.len());
+    for slot in &mut slots[..used] {
+        if slot.holds(name) {
+            *slot = Slot::empty();
         }
     }
 }
@@ -195,8 +170,6 @@ pub fn free(slots: &mut [Slot], name: &[u8])
 pub fn wipe(slots: &mut [Slot])
     ensures { slots.new ≡ changed (λ _. empty_slot) slots.old }
 {
-    let n = used_len(slots.len());
-    for i in 0..n {
-        slots[i] = Slot::empty();
-    }
+    let used = used_len(slots.len());
+    slots[..used].fill(Slot::empty());
 }

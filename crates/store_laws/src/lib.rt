@@ -2,34 +2,14 @@
 #![tactic(auto)]
 
 ghost use Rattle.std.specs.Prelude.{◌≡◌, true, [], ◌∷◌};
-ghost use Rattle.std.specs.Str.{bytes_eq};
-ghost use Rattle.store.specs.Vars.{look};
-ghost use Rattle.store_laws.specs.Working.{after, Worked, same_verdict, answers_alike, all_alike};
+ghost use Rattle.store_laws.specs.Working.{after, Worked, answers_alike, all_alike};
 ghost use Rattle.store_laws.specs.Alike.{Alike};
 
-use store::{Refusal, Store};
+use store::Store;
 
 mod operation;
 
 pub use operation::Operation;
-
-/// Whether both are granted, or both refused by the same number.
-fn same_verdict(x: Result<(), Refusal>, y: Result<(), Refusal>) -> bool
-    ensures { result ≡ same_verdict x y }
-{
-    match (x, y) {
-        (Ok(()), Ok(())) => true,
-        (Err(e), Err(f)) => e.number() == f.number(),
-        _ => false,
-    }
-}
-
-/// Whether a name has the same value in both stores.
-fn same_value<A: Store, B: Store>(a: &A, b: &B, name: &[u8]) -> bool
-    ensures { result ≡ bytes_eq (look (A.Store.meaning a.now) name.now) (look (B.Store.meaning b.now) name.now) }
-{
-    a.value(name) == b.value(name)
-}
 
 /// Asks both stores the same.
 fn ask_both<A: Store, B: Store>(a: &mut A, b: &mut B, operation: Operation<'_>) -> bool
@@ -40,13 +20,13 @@ fn ask_both<A: Store, B: Store>(a: &mut A, b: &mut B, operation: Operation<'_>) 
     ensures second { B.Store.meaning b.new ≡ after (B.Store.limits b.old) (B.Store.meaning b.old) operation.entry }
 {
     match operation {
-        Operation::Set(name, value) => same_verdict(a.set(name, value), b.set(name, value)),
+        Operation::Set(name, value) => a.set(name, value) == b.set(name, value),
         Operation::Clear => {
             a.clear();
             b.clear();
             true
         }
-        Operation::Value(name) => same_value(a, b, name),
+        Operation::Value(name) => a.value(name) == b.value(name),
         Operation::Count => a.count() == b.count(),
         Operation::Bytes => a.bytes() == b.bytes(),
         Operation::MostNames => a.most_names() == b.most_names(),

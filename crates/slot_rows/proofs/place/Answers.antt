@@ -1,8 +1,6 @@
-use Rattle.slot_rows.proofs.Rows.{first_serves, spares_places}
+use Rattle.std.proofs.Common.{rules}
+use Rattle.slot_rows.proofs.Rows.{place_else}
 use Rattle.slot_rows.proofs.place.Goals as goal
 
-pub returns-in-Some : goal.returns-in-Some
-returns-in-Some c = first_serves c.args.name.now c.args.slots.now c.in-Some.i c.in-Some.ensures
-
-pub returns-in-None : goal.returns-in-None
-returns-in-None c = spares_places c.args.name.now c.args.slots.now c.spare.result c.in-None.ensures c.spare.ensures
+pub returns : goal.returns
+returns c = place_else c.args.name.now c.args.slots.now _ c.find.result _ c.find.ensures c.or_else.ensures (λ p. search rules)

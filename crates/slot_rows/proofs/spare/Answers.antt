@@ -1,5 +1,6 @@
-use Rattle.slot_rows.proofs.Rows.{vacant_spare}
+use Rattle.std.proofs.Common.{rules}
+use Rattle.slot_rows.proofs.Rows.{spare_else}
 use Rattle.slot_rows.proofs.spare.Goals as goal
 
-pub returns-in-Some : goal.returns-in-Some
-returns-in-Some c = vacant_spare c.args.slots.now c.in-Some.i c.in-Some.ensures
+pub returns : goal.returns
+returns c = spare_else c.args.slots.now _ c.vacant.result _ c.vacant.ensures c.or_else.ensures (λ p. search rules)

@@ -1,11 +1,12 @@
-use Rattle.std.proofs.Common.{arith}
+use Rattle.std.proofs.Common.{◌≡◌, length, replicate, take, sym, ap, ◌∙◌, rules}
 use Rattle.slot_rows.specs.Slots.{empty_slot}
-use Rattle.slot_rows.proofs.Memory.{change-more, change-all}
+use Rattle.slot_rows.proofs.Memory.{changed_to, map-const}
 use Rattle.slot_rows.proofs.wipe.Goals as goal
 
-pub loop-i-preserved : goal.loop-i-preserved
-loop-i-preserved c =
-    change-more (λ _. empty_slot) c.args.slots.now c.loop-i.slots c.loop-i.i _ (omega (arith, c.loop-i-test.true, c.used_len-n.ensures)) c.loop-i.auto.slots c.loop-i.invariant c.empty.ensures
-
 pub returns : goal.returns
-returns c = change-all (λ _. empty_slot) c.args.slots.now c.loop-i.slots c.loop-i.i _ c.loop-i.invariant c.loop-i.auto.i-end c.loop-i-test.false c.used_len-n.ensures
+returns c =
+    let xs = c.args.slots.now in
+    let n = c.used_len-used.result in
+    let e : c.fill.new.self ≡ replicate (length (take n xs)) c.empty.result = c.fill.ensures.after (λ y h. search rules) in
+    changed_to (λ _. empty_slot) xs _ n c.used_len-used.ensures
+    (e ∙ (ap (replicate (length (take n xs))) c.empty.ensures ∙ sym (map-const empty_slot (take n xs))))

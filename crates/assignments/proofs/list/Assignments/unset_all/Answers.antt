@@ -7,11 +7,11 @@ use Rattle.assignments.specs.Unsetting.{without_all}
 use Rattle.assignments.specs.Pairs.{name_of, value_of, pairs_of}
 use Rattle.assignments.proofs.Alls.{unset-fits, unset-storable}
 use Rattle.assignments.proofs.Loops.{granted, unset-step}
-use Rattle.assignments.proofs.unset_all.Goals as goal
+use Rattle.assignments.proofs.list.Assignments.unset_all.Goals as goal
 
 pub loop-p-preserved : goal.loop-p-preserved
 loop-p-preserved g c =
-    let xs = c.args.pairs.now in
+    let xs = c.pairs-p-items.result.now in
     let i = c.loop-p.p-index in
     let x = c.p-item.result in
     let s = c.loop-p.store in
@@ -27,4 +27,4 @@ loop-p-preserved g c =
 pub returns : goal.returns
 returns g c =
     let m = g.S.Store.meaning c.loop-p.store in
-    record { limits = c.loop-p.invariant.0; outcome = sym (at_drop_all (λ z. without_all m (pairs_of z)) c.args.pairs.now c.loop-p.p-index c.loop-p-test.false) ∙ c.loop-p.invariant.1 }
+    record { limits = c.loop-p.invariant.0; outcome = (sym (at_drop_all (λ z. without_all m (pairs_of z)) c.pairs-p-items.result.now c.loop-p.p-index c.loop-p-test.false) ∙ c.loop-p.invariant.1) ∙ ap (without_all (g.S.Store.meaning c.args.store.now)) c.pairs-p-items.ensures.listed }

@@ -4,16 +4,18 @@ use Rattle.names.specs.Names.{storable}
 use Rattle.store.specs.Vars.{assign}
 use Rattle.store.proofs.Assigns.{verdict_ok}
 use Rattle.assignments.specs.Joint.{put_all}
-use Rattle.assignments.specs.Pairs.{name_of, pairs_of}
+use Rattle.assignments.specs.Pairs.{name_of, pairs_of, distinct}
+use Rattle.assignments.specs.Unsetting.{lacks_all}
+use Rattle.store.specs.Limits.{within}
 use Rattle.assignments.proofs.Loops.{granted, setting-fits, setting-more}
-use Rattle.assignments.proofs.set_all.Goals as goal
+use Rattle.assignments.proofs.list.Assignments.set_all.Goals as goal
 
 pub loop-p-init : goal.loop-p-init
-loop-p-init g c = record { limits = refl; towards = refl; unset = c.requires.unset; apart = c.requires.apart }
+loop-p-init g c = record { limits = refl; towards = refl; unset = ap (lacks_all (g.S.Store.meaning c.args.store.now)) c.pairs-p-items.ensures.listed ∙ c.requires.unset; apart = ap distinct c.pairs-p-items.ensures.listed ∙ c.args.self.now.apart }
 
 pub loop-p-preserved : goal.loop-p-preserved
 loop-p-preserved g c =
-    let xs = c.args.pairs.now in
+    let xs = c.pairs-p-items.result.now in
     let i = c.loop-p.p-index in
     let x = c.p-item.result in
     let s = c.loop-p.store in
@@ -25,7 +27,7 @@ loop-p-preserved g c =
     let vl = c.value.result.now in
     let h = c.loop-p-test.true in
     let st : storable nm vl ≡ true = ap (λ z. storable z vl) c.name.ensures ∙ (ap (storable (name_of x)) c.value.ensures ∙ x.pair) in
-    let f = setting-fits l l0 m m0 xs i x nm vl c.loop-p.invariant h c.p-item.is c.name.ensures c.value.ensures c.requires.fits in
+    let f = setting-fits l l0 m m0 xs i x nm vl c.loop-p.invariant h c.p-item.is c.name.ensures c.value.ensures (ap (λ z. within l0 (put_all m0 z)) c.pairs-p-items.ensures.listed ∙ c.requires.fits) in
     let ok = c.set.ensures.answer ∙ verdict_ok l m nm vl st f in
     let o = granted (g.S.Store.meaning c.set.new.self ≡ assign m nm vl) (c.set.new.self ≡ s) c.set.result ok c.set.ensures.outcome in
     setting-more l _ l0 m _ m0 xs i x nm vl c.loop-p.invariant h c.p-item.is c.name.ensures c.value.ensures c.set.ensures.limits o
@@ -33,4 +35,4 @@ loop-p-preserved g c =
 pub returns : goal.returns
 returns g c =
     let m = g.S.Store.meaning c.loop-p.store in
-    record { limits = c.loop-p.invariant.limits; outcome = sym (at_drop_all (λ z. put_all m (pairs_of z)) c.args.pairs.now c.loop-p.p-index c.loop-p-test.false) ∙ c.loop-p.invariant.towards }
+    record { limits = c.loop-p.invariant.limits; outcome = (sym (at_drop_all (λ z. put_all m (pairs_of z)) c.pairs-p-items.result.now c.loop-p.p-index c.loop-p-test.false) ∙ c.loop-p.invariant.towards) ∙ ap (put_all (g.S.Store.meaning c.args.store.now)) c.pairs-p-items.ensures.listed }
