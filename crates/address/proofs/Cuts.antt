@@ -1,14 +1,8 @@
 -- Laws of cutting lists of bytes at a byte.
-use Rattle.std.proofs.Common.{◌≡◌, ℕ, suc, ◌+◌, ◌<◌, ◌≤◌, Bool, true, false, ◌||◌, eqb, List, [], ◌∷◌, ◌++◌, length, get_or, take, drop, sym, refl, ap, ◌∙◌, inl, inr, one-add, arith}
-use Prim.Native.Nat.compare
-use lib.Dec.{compare_is_eq}
-use Rattle.std.proofs.lemmas.List.{at_drop_more, at_drop_all}
-use Rattle.std.specs.List.{prefix_len}
-use Rattle.std.proofs.lemmas.Bool.{cases_Bool, cond-true, cond-false, or_parts, or_from, and_parts, eqb-true, eq-eqb, ne_eqb, both_ways}
+use Rattle.std.proofs.Common.{◌≡◌, ℕ, suc, ◌≤◌, Bool, true, false, ◌&&◌, ◌||◌, eqb, List, [], ◌∷◌, ◌++◌, length, take, drop, sym, refl, ap, ◌∙◌, inl, inr, one-add, arith}
+use Rattle.std.specs.List.{prefix_len, list_all, list_any}
+use Rattle.std.proofs.lemmas.Bool.{cases_Bool, cond-true, cond-false, or_parts, or_from, and_parts, eqb-true, both_ways}
 use Rattle.address.specs.Bytes.{every, has, before, after}
-
-pub eqb-suc : (m n : ℕ) → eqb (suc m) (suc n) ≡ eqb m n
-eqb-suc m n = ap compare_is_eq (compare.suc-suc m n)
 
 -- a front without the byte is kept whole
 pub before-append : (s : ℕ) (xs ys : List ℕ) → has s xs ≡ false → before s (xs ++ ys) ≡ xs ++ before s ys
@@ -119,25 +113,13 @@ run-stops p (b ∷ xs) =
       | inr e ↦ rw e e
     ]
 
--- all pass exactly when the run is as long as the bytes
-pub every-length : (p : ℕ → Bool) (xs : List ℕ) → every p xs ≡ eqb (prefix_len p xs) (length xs)
+-- the tests of a list that std has
+pub every-all : (p : ℕ → Bool) (xs : List ℕ) → every p xs ≡ list_all p xs
 unfolding every
-every-length p [] = refl
-every-length p (b ∷ xs) =
-    elim (cases_Bool (p b)) [
-      | inl e ↦ rw (e, one-add) (every-length p xs ∙ sym (eqb-suc (prefix_len p xs) (length xs)))
-      | inr e ↦ rw e (sym (ne_eqb 0 (suc (length xs)) (λ q. omega arith)))
-    ]
+every-all p [] = refl
+every-all p (b ∷ xs) = ap (λ t. p b && t) (every-all p xs)
 
--- what is left decides whether the byte is among the bytes
-pub has_here : (x : ℕ) (xs : List ℕ) (i : ℕ) → i < length xs → get_or xs i 0 ≡ x → has x (drop i xs) ≡ true
+pub has-any : (x : ℕ) (xs : List ℕ) → has x xs ≡ list_any (λ b. eqb b x) xs
 unfolding has
-has_here x xs i h e = at_drop_more (has x) xs i 0 h ∙ ap (λ t. t || has x (drop (i + 1) xs)) (eq-eqb (get_or xs i 0) x e)
-
-pub has-later : (x : ℕ) (xs : List ℕ) (i : ℕ) → i < length xs → (get_or xs i 0 ≡ x → ⊥) → has x (drop i xs) ≡ has x (drop (i + 1) xs)
-unfolding has
-has-later x xs i h n = at_drop_more (has x) xs i 0 h ∙ ap (λ t. t || has x (drop (i + 1) xs)) (ne_eqb (get_or xs i 0) x n)
-
-pub has-none : (x : ℕ) (xs : List ℕ) (i : ℕ) → length xs ≤ i → has x (drop i xs) ≡ false
-unfolding has
-has-none x xs i h = at_drop_all (has x) xs i h
+has-any x [] = refl
+has-any x (b ∷ xs) = ap (λ t. eqb b x || t) (has-any x xs)

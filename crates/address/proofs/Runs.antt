@@ -1,6 +1,8 @@
 -- A lawful address, read once from the left: what the scan of its runs decides.
 use Rattle.std.proofs.Common.{◌≡◌, ℕ, suc, ◌+◌, ◌<◌, ◌≤◌, Bool, true, false, ◌&&◌, eqb, ltb, leb, List, [], ◌∷◌, ◌++◌, length, get_or, take, drop, Some, None, sym, refl, ap, ◌∙◌, inl, inr, append-nil, one-add, arith, length-append}
-use Rattle.std.specs.List.{prefix_len, starts_with}
+use Rattle.std.specs.List.{prefix_len, starts_with, list_all}
+use Rattle.std.specs.Str.{bytes_eq}
+use Rattle.std.specs.Bool.{then_some}
 use Rattle.std.proofs.lemmas.List.{append_cancel_left, take_at, drop_at, drop-drop, take-append-drop, length-take-le}
 use Rattle.std.proofs.lemmas.List.Sums.{prefix_len-le-length}
 use Rattle.std.proofs.lemmas.Bool.{cases_Bool, cond-true, cond-false, and_parts, and_left, and_right, eqb-true, eq-eqb, both_ways, ltb-true, leb-true, lt-ltb, le-leb, lt-leb, false≢true}
@@ -8,7 +10,7 @@ use Rattle.std.proofs.lemmas.Slice.Eq.{bytes_eq-Decides}
 use Rattle.address.specs.Bytes.{every, has, before, after, begins}
 use Rattle.address.specs.Address.{scheme, hash, slash, is_host_byte, is_path_byte, is_host, is_path, host_of, path_of, fragment_of, deck_of, lawful}
 use Rattle.address.specs.Layout.{closes, places_of, layout_of}
-use Rattle.address.proofs.Cuts.{before-take, before-append, after-append, every-lacks, every-run, every-length, Stops}
+use Rattle.address.proofs.Cuts.{before-take, before-append, after-append, every-lacks, every-run, every-all, Stops}
 
 and-true : (x y : Bool) → ((x && true) && y) ≡ (x && y)
 and-true true y = refl
@@ -23,12 +25,10 @@ ends-closes : (xs : List ℕ) → ends is_path_byte hash xs ≡ closes xs
 ends-closes [] = refl
 ends-closes (b ∷ xs) = refl
 
--- after `#`, the path closes well exactly when the run of path bytes goes to the end
-pub closes-after : (xs f : List ℕ) (n : ℕ) → get_or xs 0 0 ≡ 35 → f ≡ drop 1 xs → n ≡ prefix_len is_path_byte f → eqb n (length f) ≡ closes xs
-closes-after [] f n m d r = absurd (let z : ⊥ = omega arith in z)
-closes-after (b ∷ xs) f n m d r =
-    ap (λ i. eqb i (length f)) r ∙ ap (λ l. eqb (prefix_len is_path_byte l) (length l)) d ∙ sym (every-length is_path_byte xs)
-    ∙ ap (λ t. t && every is_path_byte xs) (sym (eq-eqb b 35 m))
+-- after `#`, the path closes well exactly when the rest is a fragment
+pub closes-after : (xs f : List ℕ) (r : Bool) → get_or xs 0 0 ≡ 35 → f ≡ drop 1 xs → r ≡ list_all is_path_byte f → r ≡ closes xs
+closes-after [] f r m d e = absurd (let z : ⊥ = omega arith in z)
+closes-after (b ∷ xs) f r m d e = e ∙ ap (list_all is_path_byte) d ∙ sym (every-all is_path_byte xs) ∙ ap (λ t. t && every is_path_byte xs) (sym (eq-eqb b 35 m))
 
 -- both sides of the first `s` pass exactly when the run ends well
 pub ends_is : (p : ℕ → Bool) (s : ℕ) → p s ≡ false → (xs : List ℕ) → (every p (before s xs) && every p (after s xs)) ≡ ends p s (drop (prefix_len p xs) xs)
@@ -167,6 +167,13 @@ pub unlawful-scheme : (a : List ℕ) → begins scheme a ≡ false → lawful a 
 unfolding lawful
 unlawful-scheme a h = and_right (leb (length a) 128) _ (and_left (begins scheme a) _ h)
 
+-- the same test, the other way round
+pub begins-turned : (f a : List ℕ) (b : Bool) → bytes_eq (take (length f) a) f ≡ b → begins f a ≡ b
+unfolding begins
+begins-turned f a true h = (bytes_eq-Decides f (take (length f) a)).1 (sym ((bytes_eq-Decides (take (length f) a) f).0 h))
+begins-turned f a false h =
+    refuted (begins f a) (λ e. both_ways (bytes_eq (take (length f) a) f) h ((bytes_eq-Decides (take (length f) a) f).1 (sym ((bytes_eq-Decides f (take (length f) a)).0 e))))
+
 -- what the layout then is
 pub layout-none : (a : List ℕ) → lawful a ≡ false → None ≡ layout_of a
 layout-none a e = sym (cond-false (lawful a) _ _ e)
@@ -175,6 +182,10 @@ pub layout-some : (a : List ℕ) (x y : ℕ) → lawful a ≡ true → x ≡ 7 +
 layout-some a x y e p q =
     let k : Some (record { path = x; deck = y }) ≡ Some (places_of a) = cc in
     k ∙ sym (cond-true (lawful a) _ _ e)
+
+pub layout-decided : (a : List ℕ) (b : Bool) (x y : ℕ) → lawful a ≡ b → x ≡ 7 + length (host_of a) → (lawful a ≡ true → y ≡ length (deck_of a)) → then_some b (record { path = x; deck = y }) ≡ layout_of a
+layout-decided a true x y e p q = layout-some a x y e p (q e)
+layout-decided a false x y e p q = layout-none a e
 
 -- what the scan reads, step by step: the bytes after `http://`, those after the host, and those after the path
 module _ (a rest tail end : List ℕ) (host path : ℕ)

@@ -1,11 +1,11 @@
 //! The kinds of a reference.
-ghost use Rattle.std.specs.Prelude.{◌≡◌};
-ghost use Rattle.address.specs.Resolve.{names_scheme, kind_of};
+ghost use Rattle.std.specs.Prelude.{◌≡◌, ◌==◌, ◌||◌, find};
+ghost use Rattle.address.specs.Resolve.{is_delimiter, names_scheme, kind_of};
 
-use crate::layout::begins_with;
+use crate::layout::SCHEME;
 
 /// What a reference is, by how it begins.
-#[derive(Clone, Copy)]
+#[derive(Clone, Copy, PartialEq, Eq, Debug)]
 pub enum Kind {
     /// Empty, or begins with `#`: a place in the current deck.
     SameDeck,
@@ -26,18 +26,13 @@ impl Kind {
     pub fn of(reference: &[u8]) -> Kind
         ensures { result ≡ kind_of reference.now }
     {
-        if reference.is_empty() || begins_with(reference, b"#") {
-            Kind::SameDeck
-        } else if begins_with(reference, b"http://") {
-            Kind::Absolute
-        } else if begins_with(reference, b"//") {
-            Kind::NetPath
-        } else if begins_with(reference, b"/") {
-            Kind::AbsolutePath
-        } else if names_scheme(reference) {
-            Kind::OtherScheme
-        } else {
-            Kind::RelativePath
+        match reference {
+            [] | [b'#', ..] => Kind::SameDeck,
+            [b'/', b'/', ..] => Kind::NetPath,
+            [b'/', ..] => Kind::AbsolutePath,
+            [_, ..] if reference.starts_with(SCHEME) => Kind::Absolute,
+            [_, ..] if names_scheme(reference) => Kind::OtherScheme,
+            [_, ..] => Kind::RelativePath,
         }
     }
 }
@@ -46,12 +41,19 @@ impl Kind {
 fn names_scheme(reference: &[u8]) -> bool
     ensures { result ≡ names_scheme reference.now }
 {
-    for byte in reference {
-        match *byte {
-            b':' => return true,
-            b'/' | b'?' | b'#' => return false,
-            _ => {}
-        }
-    }
-    false
+    scheme_end(reference) == Some(b':')
+}
+
+/// The first byte that ends what may be a scheme.
+fn scheme_end(reference: &[u8]) -> Option<u8>
+    ensures { result ≡ find (λ byte. byte == 58 || is_delimiter byte) reference.now }
+{
+    reference.iter().copied().find(|byte| ends_scheme(*byte))
+}
+
+/// Whether the byte ends what may be a scheme: a colon, or `/`, `?` or `#`.
+fn ends_scheme(byte: u8) -> bool
+    ensures { result ≡ (byte == 58 || is_delimiter byte) }
+{
+    matches!(byte, b':' | b'/' | b'?' | b'#')
 }

@@ -1,7 +1,6 @@
 //! Where the parts of an address lie.
 ghost use Rattle.std.specs.Prelude.{◌≡◌, ◌≤◌, true, length};
-ghost use Rattle.std.specs.List.{prefix_len};
-ghost use Rattle.address.specs.Bytes.{begins};
+ghost use Rattle.std.specs.List.{prefix_len, list_all};
 ghost use Rattle.address.specs.Layout.{allowed, closes, layout_of};
 ghost use Rattle.address.specs.Grammar.{Grammar};
 
@@ -9,7 +8,7 @@ ghost use Rattle.address.specs.Grammar.{Grammar};
 pub const MOST: usize = 128;
 
 /// What every address begins with.
-const SCHEME: &[u8] = b"http://";
+pub const SCHEME: &[u8] = b"http://";
 
 /// The places at which the parts of a lawful address meet.
 #[derive(Clone, Copy)]
@@ -33,11 +32,8 @@ impl Part {
         ensures { result ≡ allowed self byte }
     {
         match self {
-            Part::Host => match byte {
-                b'a'..=b'z' | b'0'..=b'9' | b'.' | b'-' => true,
-                _ => false,
-            },
-            Part::Path => 0x21 <= byte && byte <= 0x7E && byte != b'#',
+            Part::Host => matches!(byte, b'a'..=b'z' | b'0'..=b'9' | b'.' | b'-'),
+            Part::Path => matches!(byte, 0x21..=0x7E) && byte != b'#',
         }
     }
 
@@ -46,21 +42,15 @@ impl Part {
         ensures run { result ≡ prefix_len (allowed self) bytes.now }
         ensures within { result ≤ length bytes.now }
     {
-        for (i, byte) in bytes.iter().enumerate() {
-            if !self.allows(*byte) {
-                return i;
-            }
-        }
-        bytes.len()
+        bytes.iter().take_while(|byte| self.allows(**byte)).count()
     }
-}
 
-/// Whether `bytes` begin with `front`.
-pub fn begins_with(bytes: &[u8], front: &[u8]) -> bool
-    ensures value { result ≡ begins front.now bytes.now }
-    ensures fits { result ≡ true → length front.now ≤ length bytes.now }
-{
-    bytes.starts_with(front)
+    /// Whether the part may be these bytes.
+    fn fills(self, bytes: &[u8]) -> bool
+        ensures { result ≡ list_all (allowed self) bytes.now }
+    {
+        bytes.iter().all(|byte| self.allows(*byte))
+    }
 }
 
 /// Whether `bytes` may follow a path: there are none, or they are `#` and a fragment.
@@ -69,7 +59,8 @@ fn closes_path(bytes: &[u8]) -> bool
 {
     match bytes {
         [] => true,
-        [mark, fragment @ ..] => *mark == b'#' && Part::Path.run(fragment) == fragment.len(),
+        [b'#', fragment @ ..] => Part::Path.fills(fragment),
+        _ => false,
     }
 }
 
@@ -79,23 +70,19 @@ impl Layout {
         ensures value { result ≡ layout_of bytes.now }
         ensures grammar { Grammar }
     {
-        if bytes.len() > MOST || !begins_with(bytes, SCHEME) {
+        if bytes.len() > MOST {
             return None;
         }
-        let rest = &bytes[7..];
+        let rest = bytes.strip_prefix(SCHEME)?;
         let host = Part::Host.run(rest);
         let tail = &rest[host..];
-        if host == 0 || !begins_with(tail, b"/") {
+        if host == 0 || !tail.starts_with(b"/") {
             return None;
         }
         let path = Part::Path.run(tail);
-        if closes_path(&tail[path..]) {
-            Some(Layout {
-                path: 7 + host,
-                deck: 7 + host + path,
-            })
-        } else {
-            None
-        }
+        closes_path(&tail[path..]).then_some(Layout {
+            path: SCHEME.len() + host,
+            deck: SCHEME.len() + host + path,
+        })
     }
 }

@@ -5,7 +5,6 @@
 #![tactic(auto)]
 
 ghost use Rattle.std.specs.Prelude.{◌≡◌};
-ghost use Rattle.address.specs.Bytes.{has};
 ghost use Rattle.address.specs.Address.{lawful, is_deck_address};
 ghost use Rattle.address.specs.Grammar.{Grammar};
 
@@ -33,17 +32,5 @@ pub fn is_lawful(bytes: &[u8]) -> bool
 pub fn is_deck_address(bytes: &[u8]) -> bool
     ensures { result ≡ is_deck_address bytes.now }
 {
-    is_lawful(bytes) && !has_byte(bytes, b'#')
-}
-
-/// Whether the byte is among the bytes.
-fn has_byte(bytes: &[u8], byte: u8) -> bool
-    ensures { result ≡ has byte bytes.now }
-{
-    for b in bytes {
-        if *b == byte {
-            return true;
-        }
-    }
-    false
+    is_lawful(bytes) && !bytes.contains(&b'#')
 }

@@ -6,7 +6,7 @@ ghost use Rattle.address.specs.Meaning.{address_of, answered};
 
 use super::Address;
 use crate::fault::Unlawful;
-use crate::layout::{Layout, MOST};
+use crate::layout::{Layout, MOST, SCHEME};
 
 /// Writes `part` into `bytes` from `at` on.
 fn put(bytes: &mut [u8], at: usize, part: &[u8])
@@ -21,31 +21,23 @@ impl Address {
     pub fn join(front: &[u8], back: &[u8]) -> Result<Address, Unlawful>
         ensures { answered result ≡ if_lawful (front.now ++ back.now) }
     {
-        if front.len() > MOST || back.len() > MOST - front.len() {
+        let len = front.len() + back.len();
+        if len > MOST {
             return Err(Unlawful);
         }
-        let len = front.len() + back.len();
-        let mut bytes = [0; 128];
+        let mut bytes = [0; MOST];
         put(&mut bytes, 0, front);
         put(&mut bytes, front.len(), back);
         Address::checked(bytes, len)
     }
 
     /// The address in the first `len` of the bytes, if it is lawful.
-    fn checked(bytes: [u8; 128], len: usize) -> Result<Address, Unlawful>
+    fn checked(bytes: [u8; MOST], len: usize) -> Result<Address, Unlawful>
         requires { len ≤ 128 }
         ensures { answered result ≡ if_lawful (take len bytes) }
     {
-        match Layout::of(&bytes[0..len]) {
-            Some(Layout { path, deck }) => Ok(Address {
-                bytes,
-                len,
-                path,
-                deck,
-                fragment: len.min(deck + 1),
-            }),
-            None => Err(Unlawful),
-        }
+        let layout = Layout::of(&bytes[..len]).ok_or(Unlawful)?;
+        Ok(Address { bytes, len, layout })
     }
 
     /// The address that `bytes` spell, if it is lawful.
@@ -59,34 +51,34 @@ impl Address {
     pub fn as_bytes(&self) -> &[u8]
         ensures { result.now ≡ address_of self.now }
     {
-        &self.bytes[0..self.len]
+        &self.bytes[..self.len]
     }
 
     /// What stands between `http://` and the path.
     pub fn host(&self) -> &[u8]
         ensures { result.now ≡ host_of (address_of self.now) }
     {
-        &self.bytes[7..self.path]
+        &self.bytes[SCHEME.len()..self.layout.path]
     }
 
     /// The path, from its first `/` to before any `#`.
     pub fn path(&self) -> &[u8]
         ensures { result.now ≡ path_of (address_of self.now) }
     {
-        &self.bytes[self.path..self.deck]
+        &self.bytes[self.layout.path..self.layout.deck]
     }
 
     /// What follows `#`: nothing where there is none.
     pub fn fragment(&self) -> &[u8]
         ensures { result.now ≡ fragment_of (address_of self.now) }
     {
-        &self.bytes[self.fragment..self.len]
+        self.as_bytes().get(self.layout.deck + 1..).unwrap_or(&[])
     }
 
     /// The deck address: what precedes `#`.
     pub fn deck(&self) -> &[u8]
         ensures { result.now ≡ deck_of (address_of self.now) }
     {
-        &self.bytes[0..self.deck]
+        &self.bytes[..self.layout.deck]
     }
 }

@@ -1,11 +1,23 @@
 -- `http://`, the host and the directory are a front of the address.
-use Rattle.std.proofs.Common.{◌≡◌, ◌+◌, ◌-◌, length, take, ap, ◌∙◌, arith}
+use Rattle.std.proofs.Common.{◌≡◌, ◌+◌, length, take, ap, ◌∙◌, arith}
+use Rattle.std.proofs.lemmas.List.{length-take-le}
 use Rattle.address.specs.Address.{host_of, path_of}
 use Rattle.address.specs.Resolve.{directory_of}
 use Rattle.address.specs.Meaning.{address_of}
+use Rattle.address.proofs.Runs.{parts_of}
 use Rattle.address.proofs.Parts.{deck-length, deck-within}
 use Rattle.resolve.proofs.Joining.{directory-front}
 use Rattle.resolve.proofs.directory.Goals as goal
+
+pub overflow_add-result-2 : goal.overflow_add-result-2
+overflow_add-result-2 c =
+    let a = address_of c.args.current.now in
+    let h = ap length c.host.ensures in
+    let p = ap length c.path.ensures in
+    let k = deck-length a c.args.current.now.holds in
+    let w = deck-within a in
+    let s = (parts_of a c.args.current.now.holds).short in
+    omega arith
 
 pub slice_bounds-result-end : goal.slice_bounds-result-end
 slice_bounds-result-end c =
@@ -15,6 +27,7 @@ slice_bounds-result-end c =
     let b = ap length c.as_bytes.ensures in
     let k = deck-length a c.args.current.now.holds in
     let w = deck-within a in
+    let t = length-take-le c.args.current.now.len c.args.current.now.bytes (omega arith) in
     omega arith
 
 pub returns : goal.returns
@@ -22,6 +35,6 @@ returns c =
     let a = address_of c.args.current.now in
     let h = ap length c.host.ensures in
     let d : c.directory_len.result ≡ length (directory_of (path_of a)) = c.directory_len.ensures.value ∙ ap (λ l. length (directory_of l)) c.path.ensures in
-    let n : ((7 + length c.host.result.now) + c.directory_len.result) - 0 ≡ (7 + length (host_of a)) + c.directory_len.result = omega arith in
+    let n : (7 + length c.host.result.now) + c.directory_len.result ≡ (7 + length (host_of a)) + c.directory_len.result = omega arith in
     ap (λ i. take i c.as_bytes.result.now) n ∙ ap (take ((7 + length (host_of a)) + c.directory_len.result)) c.as_bytes.ensures
     ∙ directory-front a c.args.current.now.holds c.directory_len.result d
