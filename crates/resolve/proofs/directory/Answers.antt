@@ -1,5 +1,5 @@
 -- `http://`, the host and the directory are a front of the address.
-use Rattle.std.proofs.Common.{◌≡◌, ◌+◌, length, take, ap, ◌∙◌, arith}
+use Rattle.std.proofs.Common.{◌≡◌, ◌+◌, length, take, sym, ap, ◌∙◌, arith}
 use Rattle.std.proofs.lemmas.List.{length-take-le}
 use Rattle.address.specs.Address.{host_of, path_of}
 use Rattle.address.specs.Resolve.{directory_of}
@@ -27,8 +27,7 @@ slice_bounds-result-end c =
     let b = ap length c.as_bytes.ensures in
     let k = deck-length a c.args.current.now.holds in
     let w = deck-within a in
-    let t = length-take-le c.args.current.now.len c.args.current.now.bytes (omega arith) in
-    omega arith
+    sym (length-take-le ((7 + length c.host.result.now) + c.directory_len.result) c.as_bytes.result.now (omega arith))
 
 pub returns : goal.returns
 returns c =
