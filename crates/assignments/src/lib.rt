@@ -154,6 +154,7 @@ fn keep_others(pairs: &mut [Pair], name: &[u8]) -> usize
     ensures others { pairs_of (take result pairs.new) ≡ without (pairs_of pairs.old) name.now }
 {
     let mut others = 0;
+    // By index, since pairs move within the slice that is read.
     for i in 0..pairs.len() {
         let pair = pairs[i];
         if pair.name() != name {

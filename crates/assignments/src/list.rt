@@ -6,6 +6,7 @@ use crate::pair::Pair;
 /// At most 16 assignments, no name twice, to be made together.
 #[derive(Clone, Copy)]
 pub struct Assignments {
+    // No heap, and a list is copied with its errand: so an array with its count.
     pub(crate) list: [Pair; 16],
     pub(crate) count: usize,
     ghost few: { count ≤ 16 },

@@ -7,6 +7,7 @@ ghost use Rattle.short_text.specs.Texts.{text_of, short_of};
 /// A text of at most `N` bytes. Lent memory may hold any length: one over `N` counts as `N`.
 #[derive(Clone, Copy)]
 pub struct Short<const N: usize> {
+    // No heap: the bytes lie where the text does, with the length beside them.
     pub bytes: [u8; N],
     pub len: u8,
 }

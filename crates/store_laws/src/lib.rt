@@ -11,7 +11,7 @@ mod operation;
 
 pub use operation::Operation;
 
-/// Asks both stores the same.
+/// Asks both stores the same: a function of its own, since the laws are proved of its one answer.
 fn ask_both<A: Store, B: Store>(a: &mut A, b: &mut B, operation: Operation<'_>) -> bool
     ensures answer { result ≡ answers_alike (A.Store.limits a.old) (A.Store.meaning a.old) (B.Store.limits b.old) (B.Store.meaning b.old) operation.entry }
     ensures first_limits { A.Store.limits a.new ≡ A.Store.limits a.old }
