@@ -8,7 +8,7 @@ ghost use Rattle.packed.specs.Laws.{packed-lawful};
 
 use names::is_storable;
 use runs::{MOST_NAMES, Spot, find, rewrite, room_of, value_at, wipe};
-use store::{Refusal, Store, Totals};
+use store::{Refusal, Store};
 
 mod run;
 
@@ -48,12 +48,8 @@ impl<'a> Store for PackedRun<'a> {
             return Err(Refusal::Unstorable);
         }
         let spot = self.find(name);
-        let old = spot.held.saturating_sub(2 + name.len());
-        let after = Totals {
-            names: spot.count,
-            bytes: spot.bytes,
-        }
-        .after(name.len(), old, value.len());
+        let old = spot.value.unwrap_or(0);
+        let after = spot.totals.after(name.len(), old, value.len());
         if !after.within(MOST_NAMES, self.most_bytes()) {
             return Err(Refusal::NoRoom);
         }
@@ -70,11 +66,11 @@ impl<'a> Store for PackedRun<'a> {
     }
 
     fn count(&self) -> usize {
-        self.find(b"").count
+        self.find(b"").totals.names
     }
 
     fn bytes(&self) -> usize {
-        self.find(b"").bytes
+        self.find(b"").totals.bytes
     }
 
     fn most_names(&self) -> usize {

@@ -1,13 +1,19 @@
 -- What a pass over a packed run reads, entry by entry. Assumes nothing.
-use Rattle.std.proofs.Common.{◌≡◌, ℕ, zero, suc, ◌+◌, ◌-◌, ◌*◌, ◌<◌, ◌≤◌, Bool, true, false, cond, [], ◌∷◌, length, get_or, take, drop, sym, refl, ap, ◌∙◌, arith, length-drop, length-take}
-use Rattle.std.specs.Str.{bytes_eq}
+use Rattle.std.proofs.Common.{◌≡◌, ℕ, zero, suc, ◌+◌, ◌-◌, ◌<◌, ◌≤◌, true, false, Option, Some, None, [], ◌∷◌, length, get_or, drop, sym, refl, ap, subst, ◌∙◌, arith, length-drop, length-take}
 use Rattle.std.proofs.lemmas.Bool.Decides.{nat_tests}
+use Rattle.std.specs.Str.{bytes_eq}
+use Rattle.std.proofs.lemmas.Bool.{and_parts}
 use Rattle.names.specs.Names.{Bytes}
 use Rattle.store.specs.Order.{before}
-use Rattle.store.specs.Vars.{Vars, weight, size}
-use Rattle.runs.specs.Entry.{name_in, value_in, counts, ahead, cost}
+use Rattle.store.specs.Vars.{Vars, lacks, size, weight, above, sorted}
+use Rattle.store.proofs.Order.{same_sym, same-is, before-not_same}
+use Rattle.store.proofs.Assigns.{above-lacks}
+use Rattle.runs.specs.Entry.{name_in, value_in, counts, cost}
 use Rattle.runs.specs.Run.{parse}
-use Rattle.runs.specs.Spot.{place, held}
+use Rattle.runs.specs.Entries.{pair_of, IsFirst}
+use Rattle.runs.specs.Spot.{place, held, Found}
+use Rattle.runs.specs.declared.Entry.{Entry}
+use Rattle.runs.specs.declared.Spot.{Spot}
 
 pub parse-more : (k b : ℕ) (p xs : Bytes) → 0 < k → counts b p xs ≡ true → parse k b p xs ≡ (name_in xs, value_in xs) ∷ parse (k - 1) (b - (get_or xs 1 0 + get_or xs 0 0)) (name_in xs) (drop (2 + (get_or xs 1 0 + get_or xs 0 0)) xs)
 unfolding parse
@@ -24,42 +30,8 @@ unfolding parse
 parse-zero zero b p xs e = refl
 parse-zero (suc k) b p xs e = grind arith
 
--- how far a pass has come
-pub record Scanned (run : Bytes) (room : ℕ) (name rest last : Bytes) (at have count bytes : ℕ) : Type 0 where
-  pub few : count ≤ 32
-  pub light : bytes ≤ room
-  pub near : at ≤ 2 * count + bytes
-  pub small : have ≤ 2 * count + bytes
-  pub placed : at + place (parse (32 - count) (room - bytes) last rest) name ≡ place (parse 32 room [] run) name
-  pub kept : have + held (parse (32 - count) (room - bytes) last rest) name ≡ held (parse 32 room [] run) name
-  pub counted : count + size (parse (32 - count) (room - bytes) last rest) ≡ size (parse 32 room [] run)
-  pub weighed : bytes + weight (parse (32 - count) (room - bytes) last rest) ≡ weight (parse 32 room [] run)
-
-opened : (t : Bool) (n len : ℕ) → len ≡ cond t (2 + n) 0 → (len ≡ 0 → ⊥) → (t ≡ true) × (len ≡ 2 + n)
-opened true n len e z = (refl, e)
-opened false n len e z = absurd (z e)
-
-shut : (t : Bool) (n len : ℕ) → len ≡ cond t (2 + n) 0 → len ≡ 0 → t ≡ false
-shut true n len e z = grind arith
-shut false n len e z = refl
-
-ahead-counts : (b : ℕ) (p xs : Bytes) (len : ℕ) → len ≡ ahead b p xs → (len ≡ 0 → ⊥) → (counts b p xs ≡ true) × (len ≡ 2 + (get_or xs 1 0 + get_or xs 0 0))
-ahead-counts b p xs len e z = opened (counts b p xs) (get_or xs 1 0 + get_or xs 0 0) len e z
-
-ahead-stops : (b : ℕ) (p xs : Bytes) (len : ℕ) → len ≡ ahead b p xs → len ≡ 0 → counts b p xs ≡ false
-ahead-stops b p xs len e z = shut (counts b p xs) (get_or xs 1 0 + get_or xs 0 0) len e z
-
-pub spare-two : (xs : Bytes) (n : ℕ) → take ((2 + n) - 2) (drop 2 xs) ≡ take n (drop 2 xs)
-spare-two xs n = let e : (2 + n) - 2 ≡ n = omega arith in rw e
-
 pub lengths : (b : ℕ) (p xs : Bytes) → counts b p xs ≡ true → (get_or xs 1 0 + get_or xs 0 0 ≤ b) × (2 + (get_or xs 1 0 + get_or xs 0 0) ≤ length xs)
 lengths b p xs e = grind (arith, nat_tests)
-
-pub ahead_bounds : (b : ℕ) (p xs : Bytes) (len : ℕ) → len ≡ ahead b p xs → (len ≡ 0 → ⊥) → (2 ≤ len) × (len ≤ 2 + b) × (len ≤ length xs)
-ahead_bounds b p xs len e z =
-    let o = ahead-counts b p xs len e z in
-    let l = lengths b p xs o.0 in
-    (omega (arith, o.1), omega (arith, o.1, l.0), omega (arith, o.1, l.1))
 
 pub name-length : (b : ℕ) (p xs : Bytes) → counts b p xs ≡ true → length (name_in xs) ≡ get_or xs 1 0
 name-length b p xs e = let l = lengths b p xs e in simp (length-take, length-drop) (omega arith)
@@ -67,63 +39,92 @@ name-length b p xs e = let l = lengths b p xs e in simp (length-take, length-dro
 pub value-length : (b : ℕ) (p xs : Bytes) → counts b p xs ≡ true → length (value_in xs) ≡ get_or xs 0 0
 value-length b p xs e = let l = lengths b p xs e in simp (length-take, length-drop) (omega arith)
 
-alike : {k l b c : ℕ} {p q xs ys : Bytes} → k ≡ l → b ≡ c → p ≡ q → xs ≡ ys → parse k b p xs ≡ parse l c q ys
-alike e f g h = cc
+-- what is left once an entry came
 
--- what an entry adds
-entered : (m t : Vars) (n v name : Bytes) (len d h : ℕ) → m ≡ (n, v) ∷ t → cost n v ≡ len → d ≡ cond (before n name) len 0 → h ≡ cond (bytes_eq name n) len 0 →
-    (place m name ≡ d + place t name) × (held m name ≡ h + held t name) × (size m ≡ suc (size t)) × (weight m ≡ (len - 2) + weight t)
-entered m t n v name len d h em el ed eh =
-    let p : place m name ≡ cond (before n name) (cost n v) 0 + place t name = ap (λ x. place x name) em in
-    let q : held m name ≡ cond (bytes_eq name n) (cost n v) 0 + held t name = ap (λ x. held x name) em in
-    let w : weight m ≡ (length n + length v) + weight t = ap weight em in
-    let dd : cond (before n name) (cost n v) 0 ≡ d = ap (λ x. cond (before n name) x 0) el ∙ sym ed in
-    let hh : cond (bytes_eq name n) (cost n v) 0 ≡ h = ap (λ x. cond (bytes_eq name n) x 0) el ∙ sym eh in
-    (p ∙ ap (λ x. x + place t name) dd, q ∙ ap (λ x. x + held t name) hh, ap size em, omega arith)
+alike : {b c : ℕ} {p q v w xs ys : Bytes} (k : ℕ) → b ≡ c → p ≡ q → v ≡ w → xs ≡ ys → ◌≡◌ {A = Vars} ((p, v) ∷ parse k b p xs) ((q, w) ∷ parse k c q ys)
+alike k e f g h = cc
 
-at_most : (b : Bool) (n d : ℕ) → d ≡ cond b n 0 → d ≤ n
-at_most true n d e = omega arith
-at_most false n d e = omega arith
+pub parse-first : (k b : ℕ) (p xs t : Bytes) (e : Entry) → (k ≡ 0 → ⊥) → IsFirst b p xs e → t ≡ drop (2 + (length e.name.now + length e.value.now)) xs →
+    parse k b p xs ≡ pair_of e ∷ parse (k - 1) (b - (length e.name.now + length e.value.now)) e.name.now t
+parse-first k b p xs t e z f et =
+    let n : length e.name.now ≡ get_or xs 1 0 = ap length f.name ∙ name-length b p xs f.counts in
+    let v : length e.value.now ≡ get_or xs 0 0 = ap length f.value ∙ value-length b p xs f.counts in
+    let l : get_or xs 1 0 + get_or xs 0 0 ≡ length e.name.now + length e.value.now = omega (arith, n, v) in
+    parse-more k b p xs (omega arith) f.counts ∙ alike (k - 1) (ap (λ z. b - z) l) (sym f.name) (sym f.value) (ap (λ z. drop (2 + z) xs) l ∙ sym et)
 
-pub scan_step : (run : Bytes) (room : ℕ) (name rest last : Bytes) (at have count bytes len : ℕ) → Scanned run room name rest last at have count bytes → count < 32 → len ≡ ahead (room - bytes) last rest → (len ≡ 0 → ⊥) →
-    (rest' last' : Bytes) (d h : ℕ) → rest' ≡ drop len rest → last' ≡ name_in rest → d ≡ cond (before last' name) len 0 → h ≡ cond (bytes_eq name last') len 0 →
-    Scanned run room name rest' last' (at + d) (have + h) (count + 1) (bytes + (len - 2))
-scan_step run room name rest last at have count bytes len s lt e z rest' last' d h er el ed eh =
-    let o = ahead-counts (room - bytes) last rest len e z in
-    let l = lengths (room - bytes) last rest o.0 in
-    let nl = name-length (room - bytes) last rest o.0 in
-    let vl = value-length (room - bytes) last rest o.0 in
-    let t = parse (32 - (count + 1)) (room - (bytes + (len - 2))) last' rest' in
-    let k1 : (32 - count) - 1 ≡ 32 - (count + 1) = omega arith in
-    let k2 : (room - bytes) - (get_or rest 1 0 + get_or rest 0 0) ≡ room - (bytes + (len - 2)) = omega (arith, o.1) in
-    let m : parse (32 - count) (room - bytes) last rest ≡ (last', value_in rest) ∷ t =
-    parse-more (32 - count) (room - bytes) last rest (omega arith) o.0 ∙ ap (λ x. (name_in rest, value_in rest) ∷ x) (alike k1 k2 (sym el) (ap (λ n. drop n rest) (sym o.1) ∙ sym er)) ∙ ap (λ x. (x, value_in rest) ∷ t) (sym el) in
-    let ll : length last' ≡ get_or rest 1 0 = ap length el ∙ nl in
-    let c : cost last' (value_in rest) ≡ len = omega (arith, o.1, ll, vl) in
-    let f = entered _ t last' (value_in rest) name len d h m c ed eh in
-    let dl = at_most (before last' name) len d ed in
-    let hl = at_most (bytes_eq name last') len h eh in
+-- what a pass knows of the value, with some variables still to come
+abbrev pub Kept : Option ℕ → Vars → Vars → Bytes → Type 0
+Kept None left all n = held left n ≡ held all n
+Kept (Some v) left all n = (Some v ≡ held all n) × (lacks n left ≡ true)
+
+-- how far a pass has come
+pub record Scanned (all left : Vars) (n : Bytes) (at : ℕ) (value : Option ℕ) (names bytes : ℕ) : Type 0 where
+  pub ordered : sorted left ≡ true
+  pub placed : at + place left n ≡ place all n
+  pub kept : Kept value left all n
+  pub counted : names + size left ≡ size all
+  pub weighed : bytes + weight left ≡ weight all
+
+kept-other : (value : Option ℕ) (all t : Vars) (p : Bytes × Bytes) (n : Bytes) → bytes_eq n p.0 ≡ false → Kept value (p ∷ t) all n → Kept value t all n
+kept-other None all t p n e k = sym (rw e refl) ∙ k
+kept-other (Some v) all t p n e k = (k.0, sym (rw e refl) ∙ k.1)
+
+kept-same : (value : Option ℕ) (all t : Vars) (p : Bytes × Bytes) (n : Bytes) → bytes_eq n p.0 ≡ true → lacks n t ≡ true → Kept value (p ∷ t) all n → Kept (Some (length p.1)) t all n
+kept-same None all t p n e l k = (sym (rw e refl) ∙ k, l)
+kept-same (Some v) all t p n e l k = grind arith
+
+pub scanned-before : (all t : Vars) (p : Bytes × Bytes) (n : Bytes) (at : ℕ) (value : Option ℕ) (names bytes : ℕ) → Scanned all (p ∷ t) n at value names bytes → before p.0 n ≡ true →
+    Scanned all t n (at + cost p.0 p.1) value (names + 1) (bytes + (length p.0 + length p.1))
+scanned-before all t p n at value names bytes s e =
+    let o = and_parts (above p.0 t) (sorted t) s.ordered in
+    let pl : place (p ∷ t) n ≡ cost p.0 p.1 + place t n = rw e refl in
     record {
-      few = omega arith;
-      light = omega (arith, o.1, l);
-      near = omega (arith, s.near, dl, o.1);
-      small = omega (arith, s.small, hl, o.1);
-      placed = omega (arith, s.placed, f.0);
-      kept = omega (arith, s.kept, f.1);
-      counted = omega (arith, s.counted, f.2);
-      weighed = omega (arith, s.weighed, f.3);
+      ordered = o.1;
+      placed = omega (arith, s.placed, pl);
+      kept = kept-other value all t p n (same_sym n p.0 ∙ before-not_same p.0 n e) s.kept;
+      counted = omega (arith, s.counted);
+      weighed = omega (arith, s.weighed);
     }
 
-pub scan-end : (run : Bytes) (room : ℕ) (name rest last : Bytes) (at have count bytes : ℕ) → Scanned run room name rest last at have count bytes → parse (32 - count) (room - bytes) last rest ≡ [] →
-    (at ≡ place (parse 32 room [] run) name) × (have ≡ held (parse 32 room [] run) name) × (count ≡ size (parse 32 room [] run)) × (bytes ≡ weight (parse 32 room [] run))
-scan-end run room name rest last at have count bytes s e =
-    let p = ap (λ x. place x name) e in
-    let q = ap (λ x. held x name) e in
+pub scanned-same : (all t : Vars) (p : Bytes × Bytes) (n : Bytes) (at : ℕ) (value : Option ℕ) (names bytes : ℕ) → Scanned all (p ∷ t) n at value names bytes → before p.0 n ≡ false → bytes_eq n p.0 ≡ true →
+    Scanned all t n at (Some (length p.1)) (names + 1) (bytes + (length p.0 + length p.1))
+scanned-same all t p n at value names bytes s e i =
+    let o = and_parts (above p.0 t) (sorted t) s.ordered in
+    let l = above-lacks t n o.1 (ap (λ q. above q t) (same-is n p.0 i) ∙ o.0) in
+    let pl : place (p ∷ t) n ≡ 0 + place t n = rw e refl in
+    record {
+      ordered = o.1;
+      placed = omega (arith, s.placed, pl);
+      kept = kept-same value all t p n i l s.kept;
+      counted = omega (arith, s.counted);
+      weighed = omega (arith, s.weighed);
+    }
+
+pub scanned-after : (all t : Vars) (p : Bytes × Bytes) (n : Bytes) (at : ℕ) (value : Option ℕ) (names bytes : ℕ) → Scanned all (p ∷ t) n at value names bytes → before p.0 n ≡ false → bytes_eq n p.0 ≡ false →
+    Scanned all t n at value (names + 1) (bytes + (length p.0 + length p.1))
+scanned-after all t p n at value names bytes s e i =
+    let o = and_parts (above p.0 t) (sorted t) s.ordered in
+    let pl : place (p ∷ t) n ≡ 0 + place t n = rw e refl in
+    record {
+      ordered = o.1;
+      placed = omega (arith, s.placed, pl);
+      kept = kept-other value all t p n i s.kept;
+      counted = omega (arith, s.counted);
+      weighed = omega (arith, s.weighed);
+    }
+
+kept-end : (value : Option ℕ) (all : Vars) (n : Bytes) → Kept value [] all n → value ≡ held all n
+kept-end None all n k = k
+kept-end (Some v) all n k = k.0
+
+pub scanned-end : (all left : Vars) (n : Bytes) (s : Spot) → Scanned all left n s.place s.value s.totals.names s.totals.bytes → left ≡ [] → Found all n s
+scanned-end all left n s c e =
+    let p = ap (λ m. place m n) e in
     let k = ap size e in
     let w = ap weight e in
-    (omega (arith, s.placed), omega (arith, s.kept), omega (arith, s.counted), omega (arith, s.weighed))
-
-pub scan-stop : (run : Bytes) (room : ℕ) (name rest last : Bytes) (at have count bytes len : ℕ) → Scanned run room name rest last at have count bytes → len ≡ ahead (room - bytes) last rest → len ≡ 0 →
-    (at ≡ place (parse 32 room [] run) name) × (have ≡ held (parse 32 room [] run) name) × (count ≡ size (parse 32 room [] run)) × (bytes ≡ weight (parse 32 room [] run))
-scan-stop run room name rest last at have count bytes len s e z =
-    scan-end run room name rest last at have count bytes s (parse-none (32 - count) (room - bytes) last rest (ahead-stops (room - bytes) last rest len e z))
+    record {
+      place = omega (arith, c.placed, p);
+      value = kept-end s.value all n (subst (λ m. Kept s.value m all n) e c.kept);
+      names = omega (arith, c.counted, k);
+      bytes = omega (arith, c.weighed, w);
+    }

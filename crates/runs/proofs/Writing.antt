@@ -1,18 +1,23 @@
 -- The bytes that some variables are written as, and what setting a pair does to them. Assumes nothing.
-use Rattle.std.proofs.Common.{◌≡◌, ℕ, zero, suc, ◌+◌, ◌-◌, ◌*◌, ◌<◌, ◌≤◌, true, false, not, ◌&&◌, eqb, [], ◌∷◌, ◌++◌, length, get_or, take, drop, sym, refl, ap, ◌∙◌, ⊎_elim, arith, length-append}
+use Rattle.std.proofs.Common.{◌≡◌, ℕ, zero, suc, ◌+◌, ◌-◌, ◌*◌, ◌<◌, ◌≤◌, true, false, cond, not, ◌&&◌, eqb, [], ◌∷◌, ◌++◌, length, get_or, take, drop, sym, refl, ap, ◌∙◌, ⊎_elim, arith, length-append}
 use Rattle.std.specs.Str.{bytes_eq}
 use Rattle.std.proofs.lemmas.Bool.Decides.{nat_tests}
 use Rattle.std.proofs.lemmas.Bool.{and_parts, and_from, cases_Bool, le-leb}
 use Rattle.std.proofs.lemmas.List.{take-append-drop, take-take, drop-take, drop-drop, append_assoc, take_at, drop_at}
 use Rattle.names.specs.Names.{Bytes, storable}
 use Rattle.store.specs.Order.{before}
-use Rattle.store.specs.Vars.{Vars, without, keep, assign, look, weight, size, sorted, above, sound}
+use Rattle.store.specs.Vars.{Vars, lacks, without, keep, assign, look, weight, size, sorted, above, sound}
 use Rattle.store.proofs.Order.{same_sym, same-is, before_irr, before_asym, before-not_same, before-total}
 use Rattle.store.proofs.Assigns.{above_trans, above-lacks, insert-above, without-lacking}
 use Rattle.runs.specs.Entry.{name_in, value_in, counts, cost}
 use Rattle.runs.specs.Run.{parse}
-use Rattle.runs.specs.Spot.{place, held}
+use Rattle.runs.specs.Spot.{place}
 use Rattle.runs.proofs.Reading.{parse-more, parse-none, lengths, name-length, value-length}
+
+-- how many bytes the entry of a name takes, 0 where it is not set
+abbrev pub own : Vars → Bytes → ℕ
+own [] n = 0
+own (p ∷ ps) n = cond (bytes_eq n p.0) (cost p.0 p.1) 0 + own ps n
 
 abbrev pub enc : Bytes → Bytes → Bytes
 enc n v = length v ∷ length n ∷ (n ++ v)
@@ -134,11 +139,11 @@ past-place (p ∷ ps) n o a =
     let b = before_asym n p.0 a in
     rw (b, h) refl
 
-pub past-held : (m : Vars) (n : Bytes) → sorted m ≡ true → above n m ≡ true → held m n ≡ 0
-past-held [] n o a = refl
-past-held (p ∷ ps) n o a =
+pub past-own : (m : Vars) (n : Bytes) → sorted m ≡ true → above n m ≡ true → own m n ≡ 0
+past-own [] n o a = refl
+past-own (p ∷ ps) n o a =
     let os = and_parts (above p.0 ps) (sorted ps) o in
-    let h = past-held ps n os.1 (above_trans ps n p.0 a os.0) in
+    let h = past-own ps n os.1 (above_trans ps n p.0 a os.0) in
     let b = before-not_same n p.0 a in
     rw (b, h) refl
 
@@ -157,25 +162,25 @@ pub drop_past : (e t : Bytes) (c m : ℕ) → length e ≡ c → drop (c + m) (e
 drop_past e t c m h = sym (drop-drop m c (e ++ t)) ∙ ap (drop m) (drop_at e t c h)
 
 abbrev Spliced : Vars → Bytes → Bytes → Type 0
-Spliced m n v = encode (assign m n v) ≡ take (place m n) (encode m) ++ (enc_kept n v ++ drop (place m n + held m n) (encode m))
+Spliced m n v = encode (assign m n v) ≡ take (place m n) (encode m) ++ (enc_kept n v ++ drop (place m n + own m n) (encode m))
 
 spliced-after : (p : Bytes × Bytes) (ps : Vars) (n v : Bytes) → before p.0 n ≡ true → before n p.0 ≡ false → bytes_eq n p.0 ≡ false → Spliced ps n v → Spliced (p ∷ ps) n v
 spliced-after p ps n v f b s h =
     let e = enc p.0 p.1 in
     let c = cost p.0 p.1 in
     let t = take_past e (encode ps) c (place ps n) (length-enc p.0 p.1) in
-    let d = drop_past e (encode ps) c (place ps n + held ps n) (length-enc p.0 p.1) in
+    let d = drop_past e (encode ps) c (place ps n + own ps n) (length-enc p.0 p.1) in
     let pl : place (p ∷ ps) n ≡ c + place ps n = rw f refl in
-    let ph : place (p ∷ ps) n + held (p ∷ ps) n ≡ c + (place ps n + held ps n) = rw (f, s) (omega arith) in
+    let ph : place (p ∷ ps) n + own (p ∷ ps) n ≡ c + (place ps n + own ps n) = rw (f, s) (omega arith) in
     ap encode (assign-after p ps n v b s) ∙ (ap (λ z. e ++ z) h ∙
-    (sym (append_assoc e (take (place ps n) (encode ps)) (enc_kept n v ++ drop (place ps n + held ps n) (encode ps))) ∙
-    (ap (λ z. z ++ (enc_kept n v ++ drop (place ps n + held ps n) (encode ps))) (sym t ∙ ap (λ z. take z (encode (p ∷ ps))) (sym pl)) ∙
+    (sym (append_assoc e (take (place ps n) (encode ps)) (enc_kept n v ++ drop (place ps n + own ps n) (encode ps))) ∙
+    (ap (λ z. z ++ (enc_kept n v ++ drop (place ps n + own ps n) (encode ps))) (sym t ∙ ap (λ z. take z (encode (p ∷ ps))) (sym pl)) ∙
     ap (λ z. take (place (p ∷ ps) n) (encode (p ∷ ps)) ++ (enc_kept n v ++ z)) (sym d ∙ ap (λ z. drop z (encode (p ∷ ps))) (sym ph)))))
 
-spliced-at : (m r : Vars) (n v : Bytes) → without m n ≡ r → above n r ≡ true → place m n ≡ 0 → drop (held m n) (encode m) ≡ encode r → Spliced m n v
+spliced-at : (m r : Vars) (n v : Bytes) → without m n ≡ r → above n r ≡ true → place m n ≡ 0 → drop (own m n) (encode m) ≡ encode r → Spliced m n v
 spliced-at m r n v w a pl d =
-    let z : place m n + held m n ≡ held m n = omega arith in
-    ap (λ x. encode (keep x n v)) w ∙ (keep-above r n v a ∙ (ap (λ x. enc_kept n v ++ x) (sym d ∙ ap (λ x. drop x (encode m)) (sym z)) ∙ ap (λ x. take x (encode m) ++ (enc_kept n v ++ drop (place m n + held m n) (encode m))) (sym pl)))
+    let z : place m n + own m n ≡ own m n = omega arith in
+    ap (λ x. encode (keep x n v)) w ∙ (keep-above r n v a ∙ (ap (λ x. enc_kept n v ++ x) (sym d ∙ ap (λ x. drop x (encode m)) (sym z)) ∙ ap (λ x. take x (encode m) ++ (enc_kept n v ++ drop (place m n + own m n) (encode m))) (sym pl)))
 
 pub spliced : (m : Vars) (n v : Bytes) → sorted m ≡ true → Spliced m n v
 spliced [] n [] o = refl
@@ -183,13 +188,13 @@ spliced [] n (x ∷ xs) o = refl
 spliced (p ∷ ps) n v o =
     let os = and_parts (above p.0 ps) (sorted ps) o in
     ⊎_elim
-    (λ b. spliced-at (p ∷ ps) (p ∷ ps) n v (without-lacking (p ∷ ps) n (above-lacks (p ∷ ps) n o b)) b (past-place (p ∷ ps) n o b) (ap (λ x. drop x (encode (p ∷ ps))) (past-held (p ∷ ps) n o b)))
+    (λ b. spliced-at (p ∷ ps) (p ∷ ps) n v (without-lacking (p ∷ ps) n (above-lacks (p ∷ ps) n o b)) b (past-place (p ∷ ps) n o b) (ap (λ x. drop x (encode (p ∷ ps))) (past-own (p ∷ ps) n o b)))
     (λ b. ⊎_elim
     (λ s. let i = same-is n p.0 s in
     let a : above n ps ≡ true = ap (λ q. above q ps) i ∙ os.0 in
     let f : before p.0 n ≡ false = ap (before p.0) i ∙ before_irr p.0 in
     let pl : place (p ∷ ps) n ≡ 0 = rw (f, past-place ps n os.1 a) refl in
-    let he : held (p ∷ ps) n ≡ cost p.0 p.1 = rw (s, past-held ps n os.1 a) (omega arith) in
+    let he : own (p ∷ ps) n ≡ cost p.0 p.1 = rw (s, past-own ps n os.1 a) (omega arith) in
     spliced-at (p ∷ ps) ps n v (rw s (without-lacking ps n (above-lacks ps n os.1 a))) a pl (ap (λ x. drop x (encode (p ∷ ps))) he ∙ drop_at (enc p.0 p.1) (encode ps) _ (length-enc p.0 p.1)))
     (λ s. spliced-after p ps n v (before-total n p.0 b s) b s (spliced ps n v os.1))
     (cases_Bool (bytes_eq n p.0)))
@@ -197,7 +202,7 @@ spliced (p ∷ ps) n v o =
 
 -- where a value stands
 
-pub valued : (m : Vars) (n tail : Bytes) → sorted m ≡ true → 0 < held m n → (2 + length n ≤ held m n) × (take (held m n - (2 + length n)) (drop (place m n + (2 + length n)) (encode m ++ tail)) ≡ look m n)
+pub valued : (m : Vars) (n tail : Bytes) → sorted m ≡ true → 0 < own m n → (2 + length n ≤ own m n) × (take (own m n - (2 + length n)) (drop (place m n + (2 + length n)) (encode m ++ tail)) ≡ look m n)
 valued [] n tail o h = absurd (omega arith)
 valued (p ∷ ps) n tail o h =
     let os = and_parts (above p.0 ps) (sorted ps) o in
@@ -205,15 +210,15 @@ valued (p ∷ ps) n tail o h =
     let c = cost p.0 p.1 in
     let l = length-enc p.0 p.1 in
     ⊎_elim
-    (λ b. absurd (omega (arith, past-held (p ∷ ps) n o b)))
+    (λ b. absurd (omega (arith, past-own (p ∷ ps) n o b)))
     (λ b. ⊎_elim
     (λ s. let i = same-is n p.0 s in
     let a : above n ps ≡ true = ap (λ q. above q ps) i ∙ os.0 in
     let f : before p.0 n ≡ false = ap (before p.0) i ∙ before_irr p.0 in
     let pl : place (p ∷ ps) n ≡ 0 = rw (f, past-place ps n os.1 a) refl in
-    let he : held (p ∷ ps) n ≡ c = rw (s, past-held ps n os.1 a) (omega arith) in
+    let he : own (p ∷ ps) n ≡ c = rw (s, past-own ps n os.1 a) (omega arith) in
     let ln : length n ≡ length p.0 = ap length i in
-    let k1 : held (p ∷ ps) n - (2 + length n) ≡ length p.1 = omega (arith, he, ln) in
+    let k1 : own (p ∷ ps) n - (2 + length n) ≡ length p.1 = omega (arith, he, ln) in
     let k2 : place (p ∷ ps) n + (2 + length n) ≡ 2 + length p.0 = omega (arith, pl, ln) in (
       omega (arith, he, ln),
       (ap (λ z. take z (drop (place (p ∷ ps) n + (2 + length n)) (encode (p ∷ ps) ++ tail))) k1 ∙ (ap (λ z. take (length p.1) (drop z (encode (p ∷ ps) ++ tail))) k2 ∙
@@ -221,28 +226,43 @@ valued (p ∷ ps) n tail o h =
     ))
     (λ s. let f = before-total n p.0 b s in
     let pl : place (p ∷ ps) n ≡ c + place ps n = rw f refl in
-    let he : held (p ∷ ps) n ≡ held ps n = rw s (omega arith) in
+    let he : own (p ∷ ps) n ≡ own ps n = rw s (omega arith) in
     let q = valued ps n tail os.1 (omega (arith, he)) in
     let k2 : place (p ∷ ps) n + (2 + length n) ≡ c + (place ps n + (2 + length n)) = omega (arith, pl) in (
       omega (arith, he, q.0),
-      (ap (λ z. take (z - (2 + length n)) (drop (place (p ∷ ps) n + (2 + length n)) (encode (p ∷ ps) ++ tail))) he ∙ (ap (λ z. take (held ps n - (2 + length n)) (drop z (encode (p ∷ ps) ++ tail))) k2 ∙
-          (ap (λ z. take (held ps n - (2 + length n)) (drop (c + (place ps n + (2 + length n))) z)) (append_assoc e (encode ps) tail) ∙ (ap (take (held ps n - (2 + length n))) (drop_past e (encode ps ++ tail) c (place ps n + (2 + length n)) l) ∙ (q.1 ∙ rw s refl))))),
+      (ap (λ z. take (z - (2 + length n)) (drop (place (p ∷ ps) n + (2 + length n)) (encode (p ∷ ps) ++ tail))) he ∙ (ap (λ z. take (own ps n - (2 + length n)) (drop z (encode (p ∷ ps) ++ tail))) k2 ∙
+          (ap (λ z. take (own ps n - (2 + length n)) (drop (c + (place ps n + (2 + length n))) z)) (append_assoc e (encode ps) tail) ∙ (ap (take (own ps n - (2 + length n))) (drop_past e (encode ps ++ tail) c (place ps n + (2 + length n)) l) ∙ (q.1 ∙ rw s refl))))),
     ))
     (cases_Bool (bytes_eq n p.0)))
     (cases_Bool (before n p.0))
 
-pub unheld : (m : Vars) (n : Bytes) → held m n ≡ 0 → look m n ≡ []
-unheld [] n h = refl
-unheld (p ∷ ps) n h =
+pub unowned : (m : Vars) (n : Bytes) → own m n ≡ 0 → look m n ≡ []
+unowned [] n h = refl
+unowned (p ∷ ps) n h =
     ⊎_elim
-    (λ s. let k : held (p ∷ ps) n ≡ cost p.0 p.1 + held ps n = rw s refl in absurd (omega arith))
-    (λ s. let k : held (p ∷ ps) n ≡ held ps n = rw s (omega arith) in rw s (unheld ps n (omega arith)))
+    (λ s. let k : own (p ∷ ps) n ≡ cost p.0 p.1 + own ps n = rw s refl in absurd (omega arith))
+    (λ s. let k : own (p ∷ ps) n ≡ own ps n = rw s (omega arith) in rw s (unowned ps n (omega arith)))
     (cases_Bool (bytes_eq n p.0))
 
-pub place-held : (m : Vars) (n : Bytes) → place m n + held m n ≤ span m
-place-held [] n = omega arith
-place-held (p ∷ ps) n =
-    let h = place-held ps n in
+pub place-own : (m : Vars) (n : Bytes) → place m n + own m n ≤ span m
+place-own [] n = omega arith
+place-own (p ∷ ps) n =
+    let h = place-own ps n in
     let a = before-not_same p.0 n in
     let s = same_sym p.0 n in
     grind arith
+
+pub own-is : (m : Vars) (n : Bytes) → sorted m ≡ true → own m n ≡ cond (lacks n m) 0 (2 + (length n + length (look m n)))
+own-is [] n o = refl
+own-is (p ∷ ps) n o =
+    let os = and_parts (above p.0 ps) (sorted ps) o in
+    ⊎_elim
+    (λ s. let i = same-is n p.0 s in
+    let a : above n ps ≡ true = ap (λ q. above q ps) i ∙ os.0 in
+    let h : own (p ∷ ps) n ≡ cost p.0 p.1 = rw (s, past-own ps n os.1 a) (omega arith) in
+    let r : cond (lacks n (p ∷ ps)) 0 (2 + (length n + length (look (p ∷ ps) n))) ≡ 2 + (length n + length p.1) = rw s refl in
+    omega (arith, ap length i, h, r))
+    (λ s. let h : own (p ∷ ps) n ≡ own ps n = rw s (omega arith) in
+    let r : cond (lacks n (p ∷ ps)) 0 (2 + (length n + length (look (p ∷ ps) n))) ≡ cond (lacks n ps) 0 (2 + (length n + length (look ps n))) = rw s refl in
+    h ∙ (own-is ps n os.1 ∙ sym r))
+    (cases_Bool (bytes_eq n p.0))

@@ -1,5 +1,5 @@
 -- One entry of a packed run: the value's length, the name's length, the name, the value. Assumes nothing.
-use Rattle.std.specs.Prelude.{ℕ, ◌+◌, Bool, cond, not, ◌&&◌, length, take, drop, ◌==◌, nat_le, slice_index}
+use Rattle.std.specs.Prelude.{ℕ, ◌+◌, Bool, not, ◌&&◌, length, take, drop, ◌==◌, nat_le, slice_index}
 use Rattle.names.specs.Names.{Bytes, storable}
 use Rattle.store.specs.Order.{before}
 
@@ -15,10 +15,6 @@ value_in xs = take (slice_index xs 0) (drop (2 + slice_index xs 1) xs)
 -- memory, the pair is storable, and the name comes after the last one
 abbrev pub counts : ℕ → Bytes → Bytes → Bool
 counts room last xs = not (slice_index xs 0 == 0) && (nat_le (slice_index xs 1 + slice_index xs 0) room && (nat_le (2 + (slice_index xs 1 + slice_index xs 0)) (length xs) && (storable (name_in xs) (value_in xs) && before last (name_in xs))))
-
--- how long the entry is that the bytes begin with, 0 if it does not count
-abbrev pub ahead : ℕ → Bytes → Bytes → ℕ
-ahead room last xs = cond (counts room last xs) (2 + (slice_index xs 1 + slice_index xs 0)) 0
 
 -- how many bytes the entry of a pair takes
 abbrev pub cost : Bytes → Bytes → ℕ

@@ -1,3 +1,4 @@
 pub mod Entry
 pub mod Run
+pub mod Entries
 pub mod Spot

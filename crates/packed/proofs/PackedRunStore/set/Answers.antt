@@ -9,7 +9,7 @@ ruled r a b k w p q e ea eb ep = e ∙ (ap (λ z. leb z 32 && leb b p) ea ∙ (a
 
 pub after-after-requires : goal.after-after-requires
 after-after-requires c =
-    let k = countable c.args.self.now.bytes.now c.args.name.now c.args.value.now c.find-spot.result c.saturating_sub-old.result (sym c.is_storable.ensures ∙ c.if-not-is_storable.false) c.find-spot.ensures c.saturating_sub-old.ensures in
+    let k = countable c.args.self.now.bytes.now c.args.name.now c.args.value.now c.find-spot.result c.unwrap_or-old.result (sym c.is_storable.ensures ∙ c.if-not-is_storable.false) c.find-spot.ensures c.unwrap_or-old.ensures in
     record { name = k.name; old = k.was; new = k.new; names = k.names; bytes = k.bytes; few = k.few; light = k.light }
 
 pub returns-then-not-within : goal.returns-then-not-within
@@ -17,7 +17,7 @@ returns-then-not-within c =
     let xs = c.args.self.now.bytes.now in
     let n = c.args.name.now in
     let v = c.args.value.now in
-    let s = sums xs n v c.find-spot.result c.saturating_sub-old.result _ _ c.find-spot.ensures c.saturating_sub-old.ensures c.after-after.ensures.names c.after-after.ensures.bytes in
+    let s = sums xs n v c.find-spot.result c.unwrap_or-old.result _ _ c.find-spot.ensures c.unwrap_or-old.ensures c.after-after.ensures.names c.after-after.ensures.bytes in
     let r = ruled _ _ _ _ _ _ (room_of xs) c.within.ensures s.0 s.1 c.most_bytes.ensures in
     record { limits = refl; answer = sym (verdict_no-room (limits_of xs) (reads xs) n v (sym c.is_storable.ensures ∙ c.if-not-is_storable.false) (sym r ∙ c.if-not-within.true)); outcome = refl }
 
@@ -26,7 +26,7 @@ rewrite-requires c =
     let xs = c.args.self.now.bytes.now in
     let n = c.args.name.now in
     let v = c.args.value.now in
-    let s = sums xs n v c.find-spot.result c.saturating_sub-old.result _ _ c.find-spot.ensures c.saturating_sub-old.ensures c.after-after.ensures.names c.after-after.ensures.bytes in
+    let s = sums xs n v c.find-spot.result c.unwrap_or-old.result _ _ c.find-spot.ensures c.unwrap_or-old.ensures c.after-after.ensures.names c.after-after.ensures.bytes in
     let r = ruled _ _ _ _ _ _ (room_of xs) c.within.ensures s.0 s.1 c.most_bytes.ensures in
     record { spot = c.find-spot.ensures; pair = sym c.is_storable.ensures ∙ c.if-not-is_storable.false; fits = sym r ∙ c.if-not-within.false }
 
@@ -35,7 +35,7 @@ returns c =
     let xs = c.args.self.now.bytes.now in
     let n = c.args.name.now in
     let v = c.args.value.now in
-    let s = sums xs n v c.find-spot.result c.saturating_sub-old.result _ _ c.find-spot.ensures c.saturating_sub-old.ensures c.after-after.ensures.names c.after-after.ensures.bytes in
+    let s = sums xs n v c.find-spot.result c.unwrap_or-old.result _ _ c.find-spot.ensures c.unwrap_or-old.ensures c.after-after.ensures.names c.after-after.ensures.bytes in
     let r = ruled _ _ _ _ _ _ (room_of xs) c.within.ensures s.0 s.1 c.most_bytes.ensures in
     record {
       limits = ap (λ z. record { names = 32; bytes = min (z - 64) 4096 }) c.rewrite.auto.run;
