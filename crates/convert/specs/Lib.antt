@@ -1,2 +1,5 @@
 pub mod Escape
 pub mod Unescape
+pub mod SinkLaws
+pub mod Counting
+pub mod Writing

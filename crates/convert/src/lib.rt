@@ -1,12 +1,14 @@
-//! The conversions of a value: escape, unescape and plain copy.
-//!
-//! Each comes as a count of the bytes it gives and as a writer into lent memory.
+//! The conversions of a value: escape, unescape and plain copy, each into any sink of bytes.
 #![tactic(auto)]
 
 ghost use Rattle.std.specs.Prelude.{◌≡◌, ℕ, ◌+◌, ◌*◌, ◌<◌, ◌≤◌, true, ◌&&◌, length};
 ghost use Rattle.std.proofs.lemmas.List.Edits.{sets};
 ghost use Rattle.convert.specs.Escape.{kept, upper_digit, escape};
 ghost use Rattle.convert.specs.Unescape.{is_hex, hex_value, unescape};
+
+mod sink;
+
+pub use sink::{Counter, Sink, Writer};
 
 fn is_kept(b: u8) -> bool
     ensures { result ≡ kept b }
@@ -25,38 +27,20 @@ fn upper_digit(n: u8) -> u8
     if n < 10 { b'0' + n } else { b'A' - 10 + n }
 }
 
-/// How many bytes the escaped value has.
-pub fn escaped_len(value: &[u8]) -> usize
-    requires { length value.now ≤ 1024 }
-    ensures count { result ≡ length (escape value.now) }
-    ensures most { result ≤ 3 * length value.now }
+/// Sends the escaped value.
+pub fn escape<S: Sink>(value: &[u8], sink: &mut S)
+    requires { S.fits sink.old (length (escape value.now)) }
+    ensures { S.takes sink.old (escape value.now) sink.new }
 {
-    let mut len = 0;
-    for b in value {
-        len += if is_kept(*b) { 1 } else { 3 };
-    }
-    len
-}
-
-/// Writes the escaped value from `at` on, and answers where it ends.
-pub fn escape_into(value: &[u8], out: &mut [u8], at: usize) -> usize
-    requires { at + length (escape value.now) ≤ length out.old }
-    ensures bytes { out.new ≡ sets out.old at (escape value.now) }
-    ensures end { result ≡ at + length (escape value.now) }
-{
-    let mut end = at;
     for b in value {
         if is_kept(*b) {
-            out[end] = *b;
-            end += 1;
+            sink.put(*b);
         } else {
-            out[end] = b'%';
-            out[end + 1] = upper_digit(*b / 16);
-            out[end + 2] = upper_digit(*b % 16);
-            end += 3;
+            sink.put(b'%');
+            sink.put(upper_digit(*b / 16));
+            sink.put(upper_digit(*b % 16));
         }
     }
-    end
 }
 
 fn is_hex(b: u8) -> bool
@@ -85,44 +69,34 @@ fn hex_value(b: u8) -> u8
     }
 }
 
-/// How many bytes the unescaped value has.
-pub fn unescaped_len(value: &[u8]) -> usize
-    ensures count { result ≡ length (unescape value.now) }
-    ensures most { result ≤ length value.now }
+/// Sends the unescaped value.
+pub fn unescape<S: Sink>(value: &[u8], sink: &mut S)
+    requires { S.fits sink.old (length (unescape value.now)) }
+    ensures { S.takes sink.old (unescape value.now) sink.new }
 {
-    let mut n = 0;
     let mut rest = value;
     loop {
         match rest {
-            [] => return n,
-            [b'%', hi, lo, tail @ ..] if are_hex(*hi, *lo) => rest = tail,
-            [_, tail @ ..] => rest = tail,
-        }
-        n += 1;
-    }
-}
-
-/// Writes the unescaped value from `at` on, and answers where it ends.
-pub fn unescape_into(value: &[u8], out: &mut [u8], at: usize) -> usize
-    requires { at + length (unescape value.now) ≤ length out.old }
-    ensures bytes { out.new ≡ sets out.old at (unescape value.now) }
-    ensures end { result ≡ at + length (unescape value.now) }
-{
-    let mut n = at;
-    let mut rest = value;
-    loop {
-        match rest {
-            [] => return n,
+            [] => return,
             [b'%', hi, lo, tail @ ..] if are_hex(*hi, *lo) => {
-                out[n] = 16 * hex_value(*hi) + hex_value(*lo);
+                sink.put(16 * hex_value(*hi) + hex_value(*lo));
                 rest = tail;
             }
             [b, tail @ ..] => {
-                out[n] = *b;
+                sink.put(*b);
                 rest = tail;
             }
         }
-        n += 1;
+    }
+}
+
+/// Sends the value as it is.
+pub fn copy<S: Sink>(value: &[u8], sink: &mut S)
+    requires { S.fits sink.old (length value.now) }
+    ensures { S.takes sink.old value.now sink.new }
+{
+    for byte in value {
+        sink.put(*byte);
     }
 }
 
@@ -132,10 +106,7 @@ pub fn copy_into(value: &[u8], out: &mut [u8], at: usize) -> usize
     ensures bytes { out.new ≡ sets out.old at value.now }
     ensures end { result ≡ at + length value.now }
 {
-    let mut to = at;
-    for byte in value {
-        out[to] = *byte;
-        to += 1;
-    }
-    to
+    let mut writer = Writer { buf: out, at };
+    copy(value, &mut writer);
+    writer.at
 }

@@ -1,29 +1,29 @@
 -- Words at the front of a text. Assumes nothing.
-use Rattle.std.proofs.Common.{◌≡◌, ℕ, suc, ◌+◌, ◌<◌, true, false, ◌&&◌, eqb, List, [], ◌∷◌, length, get_or, drop, sym, refl, ap, ◌∙◌, add-zero, get_or-drop}
-use Rattle.std.proofs.lemmas.List.{drop_more}
-use Rattle.std.proofs.lemmas.Bool.{and_right, eq-eqb, cond-true, cond-false}
+use Rattle.std.proofs.Common.{◌≡◌, Bool, true, false, eqb, List, ℕ, [], ◌∷◌, map, sym, refl, ◌∙◌, inl, inr, rules}
+use Rattle.std.specs.Prelude.{◌↔◌, IsTrue}
+use Rattle.std.proofs.lemmas.Bool.{cases_Bool, and_parts, and_from, eq-eqb, eqb-true}
 use Rattle.std.specs.Char.{to_ascii_lowercase}
-use Rattle.std.specs.List.{prefix_len}
-use Rattle.names.specs.Names.{starts_name, continues_name}
-use Rattle.pieces.specs.Words.{same_word, name_len}
+use Rattle.pieces.specs.Words.{same_word}
 
-pub same-long : (xs ys : List ℕ) → (length xs ≡ length ys → ⊥) → same_word xs ys ≡ false
-same-long [] [] h = absurd (h refl)
-same-long [] (y ∷ ys) h = refl
-same-long (x ∷ xs) [] h = refl
-same-long (x ∷ xs) (y ∷ ys) h = and_right _ _ (same-long xs ys (λ e. h (ap suc e)))
+same_word-from_map : (xs ys : List ℕ) → map to_ascii_lowercase xs ≡ ys → same_word xs ys ≡ true
+same_word-from_map [] [] e = refl
+same_word-from_map [] (y ∷ ys) e = cc
+same_word-from_map (x ∷ xs) [] e = cc
+same_word-from_map (x ∷ xs) (y ∷ ys) e = and_from _ _ (eq-eqb _ _ (cc)) (same_word-from_map xs ys (cc))
 
-pub same_at : (xs ys : List ℕ) (i : ℕ) → i < length xs → i < length ys → same_word (drop i xs) (drop i ys) ≡ (eqb (to_ascii_lowercase (get_or xs i 0)) (get_or ys i 0) && same_word (drop (i + 1) xs) (drop (i + 1) ys))
-same_at xs ys i h k = λ j. same_word (drop_more xs i 0 h j) (drop_more ys i 0 k j)
+map-from_same_word : (xs ys : List ℕ) → same_word xs ys ≡ true → map to_ascii_lowercase xs ≡ ys
+map-from_same_word [] [] e = refl
+map-from_same_word [] (y ∷ ys) e = cc
+map-from_same_word (x ∷ xs) [] e = cc
+map-from_same_word (x ∷ xs) (y ∷ ys) e =
+    let h = and_parts (eqb (to_ascii_lowercase x) y) (same_word xs ys) e in
+    (λ i. eqb-true _ _ h.0 i ∷ map-from_same_word xs ys h.1 i)
 
-pub same_step : (xs ys : List ℕ) (i : ℕ) → i < length xs → i < length ys → to_ascii_lowercase (get_or xs i 0) ≡ get_or ys i 0 → same_word (drop i xs) (drop i ys) ≡ same_word (drop (i + 1) xs) (drop (i + 1) ys)
-same_step xs ys i h k e = same_at xs ys i h k ∙ ap (λ b. b && same_word (drop (i + 1) xs) (drop (i + 1) ys)) (eq-eqb _ _ e)
-
-first : (xs : List ℕ) (i : ℕ) → get_or (drop i xs) 0 0 ≡ get_or xs i 0
-first xs i = get_or-drop i xs 0 0 ∙ ap (λ k. get_or xs k 0) (add-zero i)
-
-pub starts : (xs : List ℕ) (i b : ℕ) → b ≡ get_or xs i 0 → true ≡ starts_name b → name_len (drop i xs) ≡ prefix_len continues_name (drop i xs)
-starts xs i b e s = cond-true _ _ _ (ap starts_name (first xs i ∙ sym e) ∙ sym s)
-
-pub no_start : (xs : List ℕ) (i b : ℕ) → b ≡ get_or xs i 0 → false ≡ starts_name b → name_len (drop i xs) ≡ 0
-no_start xs i b e s = cond-false (starts_name (get_or (drop i xs) 0 0)) (prefix_len continues_name (drop i xs)) 0 (ap starts_name (first xs i ∙ sym e) ∙ sym s)
+-- the library's test, where the word is in small letters
+pub same_word-is : (r : Bool) (xs ys : List ℕ) → map to_ascii_lowercase ys ≡ ys → (IsTrue r ↔ (map to_ascii_lowercase xs ≡ map to_ascii_lowercase ys)) → r ≡ same_word xs ys
+same_word-is true xs ys low t = sym (same_word-from_map xs ys (t.0 (search rules) ∙ low))
+same_word-is false xs ys low t =
+    elim (cases_Bool (same_word xs ys)) [
+      | inl e ↦ absurd (let z = t.1 (map-from_same_word xs ys e ∙ sym low) in search rules)
+      | inr e ↦ sym e
+    ]

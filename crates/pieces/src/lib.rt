@@ -1,9 +1,11 @@
 //! The pieces of a text: bytes that stand for themselves, and references to variables.
 #![tactic(auto)]
 
-ghost use Rattle.std.specs.Prelude.{◌≡◌, ℕ, ◌+◌, ◌-◌, ◌*◌, ◌<◌, ◌≤◌, length, drop, slice_index};
+ghost use Rattle.std.specs.Prelude.{◌≡◌, ℕ, ◌+◌, ◌-◌, ◌≤◌, [], length, map, drop, MatchOption};
+ghost use Rattle.std.specs.Char.{to_ascii_lowercase};
 ghost use Rattle.pieces.specs.Words.{name_len, same_word, conversion_of};
-ghost use Rattle.pieces.specs.Pieces.{piece, bracket, closed, Within};
+ghost use Rattle.pieces.specs.Pieces.{Broken, bracket};
+ghost use Rattle.pieces.specs.Reads.{Reads, Bracketed, IsNameAndRest};
 
 use names::{continues_name, starts_name};
 
@@ -15,32 +17,32 @@ pub enum Conversion {
     Unesc,
 }
 
-/// One piece at the front of a text.
+/// One piece of a text.
 #[derive(Clone, Copy)]
-pub enum Piece {
-    /// A byte that stands for itself, and how many bytes of the text it takes: two for `$$`.
-    Literal {
-        byte: u8,
-        size: usize,
-    },
-    /// A reference: where its name begins and how long it is, the conversion if one is written, and
-    /// how many bytes of the text it takes.
+pub enum Piece<'a> {
+    /// A byte that stands for itself; `$$` gives a dollar sign.
+    Literal(u8),
+    /// A reference to a name, with the conversion if one is written.
     Reference {
-        start: usize,
-        len: usize,
+        name: &'a [u8],
         conversion: Option<Conversion>,
-        size: usize,
     },
     /// A dollar sign that begins nothing.
     Broken,
 }
 
-/// The byte at `at`, or 0 past the end.
-fn peek(text: &[u8], at: usize) -> u8
-    ensures value { result ≡ slice_index text.now at }
-    ensures inside { result ≤ 255 * (length text.now - at) }
+/// How many bytes the longest name at the front has, 0 where none begins there.
+fn front_name_len(text: &[u8]) -> usize
+    ensures value { result ≡ name_len text.now }
+    ensures within { result ≤ length text.now }
 {
-    if at < text.len() { text[at] } else { 0 }
+    match text {
+        [first, ..] if starts_name(*first) => text
+            .iter()
+            .position(|b| !continues_name(*b))
+            .unwrap_or(text.len()),
+        _ => 0,
+    }
 }
 
 /// How many bytes the longest name at `from` has, 0 where none begins there.
@@ -48,29 +50,28 @@ pub fn name_len(text: &[u8], from: usize) -> usize
     ensures value { result ≡ name_len (drop from text.now) }
     ensures within { result ≤ length text.now - from }
 {
-    if !starts_name(peek(text, from)) {
-        return 0;
+    match text.get(from..) {
+        Some(rest) => front_name_len(rest),
+        None => 0,
     }
-    let mut i = from;
-    while i < text.len() && continues_name(text[i]) {
-        i += 1;
-    }
-    i - from
 }
 
-/// Whether the bytes are the word, each letter in either case; `word` is in small letters.
+/// The longest name that the text begins with, and what follows it.
+fn split_name(text: &[u8]) -> Option<(&[u8], &[u8])>
+    ensures { MatchOption result (name_len text.now ≡ 0) (λ r. IsNameAndRest text.now r.0.now r.1.now) }
+{
+    match front_name_len(text) {
+        0 => None,
+        len => Some(text.split_at(len)),
+    }
+}
+
+/// Whether the bytes are the word, each letter in either case.
 fn is_word(text: &[u8], word: &[u8]) -> bool
+    requires { map to_ascii_lowercase word.now ≡ word.now }
     ensures { result ≡ same_word text.now word.now }
 {
-    if text.len() != word.len() {
-        return false;
-    }
-    for i in 0..text.len() {
-        if text[i].to_ascii_lowercase() != word[i] {
-            return false;
-        }
-    }
-    true
+    text.eq_ignore_ascii_case(word)
 }
 
 /// The conversion that a word means.
@@ -88,78 +89,49 @@ pub fn conversion_of(word: &[u8]) -> Option<Conversion>
     }
 }
 
-/// The reference whose name of `n` bytes, from 2 on, is followed by a colon.
-fn with_conversion(text: &[u8], n: usize) -> Piece
-    requires { n + 3 ≤ length text.now }
-    ensures value { result ≡ closed text.now n (name_len (drop (n + 3) text.now)) }
-    ensures within { Within result (length text.now) }
+/// The reference whose `$(` stands before the text, and what follows its `)`.
+fn in_brackets(text: &[u8]) -> Option<(Piece<'_>, &[u8])>
+    ensures { MatchOption result (bracket text.now (name_len text.now) ≡ Broken) (λ r. Bracketed text.now (bracket text.now (name_len text.now)) r.0 r.1.now) }
 {
-    let w = name_len(text, n + 3);
-    if peek(text, n + 3 + w) != b')' {
-        return Piece::Broken;
-    }
-    match conversion_of(&text[n + 3..n + 3 + w]) {
-        None => Piece::Broken,
-        conversion => Piece::Reference {
-            start: 2,
-            len: n,
-            conversion,
-            size: n + w + 4,
-        },
-    }
-}
-
-/// The reference in brackets, with a name of `n` bytes.
-fn in_brackets(text: &[u8], n: usize) -> Piece
-    requires { n ≤ length text.now - 2 }
-    ensures value { result ≡ bracket text.now n }
-    ensures within { Within result (length text.now) }
-{
-    if n == 0 {
-        return Piece::Broken;
-    }
-    match peek(text, n + 2) {
-        b')' => Piece::Reference {
-            start: 2,
-            len: n,
-            conversion: None,
-            size: n + 3,
-        },
-        b':' => with_conversion(text, n),
-        _ => Piece::Broken,
-    }
-}
-
-/// The first piece of a text that is not empty.
-pub fn first_piece(text: &[u8]) -> Piece
-    requires { 0 < length text.now }
-    ensures value { result ≡ piece text.now }
-    ensures within { Within result (length text.now) }
-{
-    if text[0] != b'$' {
-        return Piece::Literal {
-            byte: text[0],
-            size: 1,
-        };
-    }
-    match peek(text, 1) {
-        b'$' => Piece::Literal {
-            byte: b'$',
-            size: 2,
-        },
-        b'(' => in_brackets(text, name_len(text, 2)),
-        _ => {
-            let n = name_len(text, 1);
-            if n == 0 {
-                Piece::Broken
-            } else {
-                Piece::Reference {
-                    start: 1,
-                    len: n,
-                    conversion: None,
-                    size: n + 1,
-                }
-            }
+    let (name, rest) = split_name(text)?;
+    match rest {
+        [b')', rest @ ..] => Some((
+            Piece::Reference {
+                name,
+                conversion: None,
+            },
+            rest,
+        )),
+        [b':', rest @ ..] => {
+            let (word, rest) = split_name(rest)?;
+            let conversion = Some(conversion_of(word)?);
+            let [b')', rest @ ..] = rest else {
+                return None;
+            };
+            Some((Piece::Reference { name, conversion }, rest))
         }
+        _ => None,
+    }
+}
+
+/// The first piece of a text, and what follows it; none where the text is empty.
+pub fn first_piece(text: &[u8]) -> Option<(Piece<'_>, &[u8])>
+    ensures { MatchOption result (text.now ≡ []) (λ r. Reads text.now r.0 r.1.now) }
+{
+    match text {
+        [] => None,
+        [b'$', b'$', rest @ ..] => Some((Piece::Literal(b'$'), rest)),
+        [b'$', b'(', rest @ ..] => Some(in_brackets(rest).unwrap_or((Piece::Broken, &text[1..]))),
+        [b'$', rest @ ..] => match split_name(rest) {
+            None => Some((Piece::Broken, rest)),
+            Some((name, rest)) => Some((
+                Piece::Reference {
+                    name,
+                    conversion: None,
+                },
+                rest,
+            )),
+        },
+        [byte, rest @ ..] => Some((Piece::Literal(*byte), rest)),
     }
 }

@@ -1,13 +1,11 @@
 -- The laws of filling. Assumes nothing.
-use Rattle.std.proofs.Common.{◌≡◌, ℕ, zero, suc, ◌+◌, ◌-◌, ◌*◌, ◌<◌, ◌≤◌, true, false, not, eqb, leb, List, [], ◌∷◌, ◌++◌, length, take, drop, Some, None, Option, sym, refl, ap, ◌∙◌, arith, length-append}
+use Rattle.std.proofs.Common.{◌≡◌, ℕ, zero, suc, ◌+◌, ◌-◌, ◌*◌, ◌<◌, ◌≤◌, true, false, not, eqb, leb, List, [], ◌∷◌, ◌++◌, length, Some, None, Option, sym, refl, ap, ◌∙◌, arith, length-append}
 use Rattle.std.proofs.lemmas.Bool.{cond_both, cond-false, and_parts}
 use Rattle.names.specs.Names.{Bytes}
 use Rattle.convert.proofs.Laws.{conversions-fit}
 use Rattle.pieces.specs.declared.Conversion.{Conversion}
 use Rattle.pieces.specs.declared.Conversion.TheVariants.{Escape, Noesc, Unesc}
-use Rattle.pieces.specs.declared.Piece.{Piece}
-use Rattle.pieces.specs.declared.Piece.TheVariants.{Literal, Reference, Broken}
-use Rattle.pieces.specs.Pieces.{piece, size, Within}
+use Rattle.pieces.specs.Pieces.{Piece, Literal, Reference, Broken, piece, size, Within}
 use Rattle.pieces.proofs.Inside.{piece-within}
 use Rattle.text.specs.declared.Mode.{Mode}
 use Rattle.text.specs.declared.Mode.TheVariants.{Plain, Address}
@@ -24,7 +22,7 @@ unfolding fills
 plain-fills look mode [] h = refl
 plain-fills look mode (x ∷ xs) h =
     let hs = and_parts (not (eqb x 36)) (dollarless xs) h in
-    ap (λ p. gives look mode (x ∷ xs) p ++ fills look mode (size p - 1) xs) (literal x xs hs.0) ∙ ap (λ l. x ∷ l) (plain-fills look mode xs hs.1)
+    ap (λ p. gives look mode p ++ fills look mode (size p - 1) xs) (literal x xs hs.0) ∙ ap (λ l. x ∷ l) (plain-fills look mode xs hs.1)
 
 plain-whole : (at : ℕ) (text : Bytes) → dollarless text ≡ true → breaks at 0 text ≡ None
 unfolding breaks
@@ -38,28 +36,28 @@ plain_stays look mode text h = (plain-whole 0 text h, plain-fills look mode text
 
 -- the parts of a text, found by reading it alone
 
-part_of : Bytes → Piece → List Part
-part_of xs (Literal b n) = byte b ∷ []
-part_of xs (Reference start len c n) = refer (take len (drop start xs)) c ∷ []
-part_of xs Broken = []
+part_of : Piece → List Part
+part_of (Literal b n) = byte b ∷ []
+part_of (Reference name c n) = refer name c ∷ []
+part_of Broken = []
 
 parts_of : ℕ → Bytes → List Part
 parts_of k [] = []
-parts_of zero (x ∷ xs) = part_of (x ∷ xs) (piece (x ∷ xs)) ++ parts_of (size (piece (x ∷ xs)) - 1) xs
+parts_of zero (x ∷ xs) = part_of (piece (x ∷ xs)) ++ parts_of (size (piece (x ∷ xs)) - 1) xs
 parts_of (suc k) (x ∷ xs) = parts_of k xs
 
-part_gives : (look : Lookup) (mode : Mode) (xs : Bytes) (p : Piece) (ps : List Part) → replaced look mode (part_of xs p ++ ps) ≡ gives look mode xs p ++ replaced look mode ps
+part_gives : (look : Lookup) (mode : Mode) (p : Piece) (ps : List Part) → replaced look mode (part_of p ++ ps) ≡ gives look mode p ++ replaced look mode ps
 unfolding part_of
-part_gives look mode xs (Literal b n) ps = refl
-part_gives look mode xs (Reference start len c n) ps = refl
-part_gives look mode xs Broken ps = refl
+part_gives look mode (Literal b n) ps = refl
+part_gives look mode (Reference name c n) ps = refl
+part_gives look mode Broken ps = refl
 
 parts_give : (look : Lookup) (mode : Mode) (k : ℕ) (xs : Bytes) → fills look mode k xs ≡ replaced look mode (parts_of k xs)
 unfolding fills parts_of
 parts_give look mode k [] = refl
 parts_give look mode zero (x ∷ xs) =
-    ap (λ l. gives look mode (x ∷ xs) (piece (x ∷ xs)) ++ l) (parts_give look mode (size (piece (x ∷ xs)) - 1) xs)
-    ∙ sym (part_gives look mode (x ∷ xs) (piece (x ∷ xs)) (parts_of (size (piece (x ∷ xs)) - 1) xs))
+    ap (λ l. gives look mode (piece (x ∷ xs)) ++ l) (parts_give look mode (size (piece (x ∷ xs)) - 1) xs)
+    ∙ sym (part_gives look mode (piece (x ∷ xs)) (parts_of (size (piece (x ∷ xs)) - 1) xs))
 parts_give look mode (suc k) (x ∷ xs) = parts_give look mode k xs
 
 values_unread : ValuesUnread
@@ -78,16 +76,16 @@ referred-short : (look : Lookup) → Short look → (n : Bytes) → length (refe
 referred-short look h n = cond_both (leb (length n) 16) (look n) [] (λ v. length v ≤ 64) (λ _. h n) (λ _. omega arith)
 
 -- a piece gives at most 96 bytes for each that it takes
-piece-most : (look : Lookup) (mode : Mode) → Short look → (xs : Bytes) (p : Piece) (k : ℕ) → Within p k → 0 < k → length (gives look mode xs p) + 96 * (k - size p) ≤ 96 * k
-piece-most look mode h xs (Literal b n) k w z = omega (arith, w.0, w.1)
-piece-most look mode h xs (Reference start len c n) k w z =
-    let m = convert-most mode c (referred look (take len (drop start xs))) (referred-short look h (take len (drop start xs))) in
+piece-most : (look : Lookup) (mode : Mode) → Short look → (p : Piece) (k : ℕ) → Within p k → 0 < k → length (gives look mode p) + 96 * (k - size p) ≤ 96 * k
+piece-most look mode h (Literal b n) k w z = omega (arith, w.0, w.1)
+piece-most look mode h (Reference name c n) k w z =
+    let m = convert-most mode c (referred look name) (referred-short look h name) in
     omega (arith, w.0, w.2)
-piece-most look mode h xs Broken k w z = omega arith
+piece-most look mode h Broken k w z = omega arith
 
-size-some : (p : Piece) (k : ℕ) → Within p k → 1 ≤ size p
+pub size-some : (p : Piece) (k : ℕ) → Within p k → 1 ≤ size p
 size-some (Literal b n) k w = w.0
-size-some (Reference start len c n) k w = omega (arith, w.0)
+size-some (Reference name c n) k w = omega (arith, w.0)
 size-some Broken k w = omega arith
 
 fills-most : (look : Lookup) (mode : Mode) → Short look → (k : ℕ) (xs : Bytes) → length (fills look mode k xs) ≤ 96 * (length xs - k)
@@ -95,10 +93,10 @@ unfolding fills
 fills-most look mode h k [] = omega arith
 fills-most look mode h zero (x ∷ xs) =
     let p = piece (x ∷ xs) in
-    let m = piece-most look mode h (x ∷ xs) p (length (x ∷ xs)) (piece-within (x ∷ xs) (omega arith)) (omega arith) in
+    let m = piece-most look mode h p (length (x ∷ xs)) (piece-within (x ∷ xs) (omega arith)) (omega arith) in
     let r = fills-most look mode h (size p - 1) xs in
     let s = size-some p (length (x ∷ xs)) (piece-within (x ∷ xs) (omega arith)) in
-    omega (arith, length-append (gives look mode (x ∷ xs) p) (fills look mode (size p - 1) xs))
+    omega (arith, length-append (gives look mode p) (fills look mode (size p - 1) xs))
 fills-most look mode h (suc k) (x ∷ xs) = let r = fills-most look mode h k xs in omega arith
 
 filled-most : FilledMost

@@ -35,10 +35,10 @@ abbrev pub written : Result ℕ TextFault → Bytes → Bytes → Bytes
 written (Ok n) xs buf = sets buf 0 xs
 written (Err e) xs buf = buf
 
--- the place of the fault, or the length
-abbrev pub counted : Option ℕ → ℕ → Result ℕ ℕ
-counted None n = Ok n
-counted (Some place) n = Err place
+-- a text that is broken is refused with its place
+abbrev pub whole : Option ℕ → Result (Unit {0}) TextFault
+whole None = Ok tt
+whole (Some place) = Err (Broken place)
 
 -- room that suffices, at some bytes for each byte of what is given
 abbrev pub room_answer : ℕ → Bytes → Result ℕ TextFault

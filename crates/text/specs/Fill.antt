@@ -1,13 +1,11 @@
 -- What a text becomes when variables are put into it. Assumes nothing.
-use Rattle.std.specs.Prelude.{ℕ, zero, suc, ◌+◌, ◌-◌, cond, [], ◌∷◌, ◌++◌, length, take, drop, Some, None, Option, nat_le}
+use Rattle.std.specs.Prelude.{ℕ, zero, suc, ◌+◌, ◌-◌, cond, [], ◌∷◌, ◌++◌, length, Some, None, Option, nat_le}
 use Rattle.names.specs.Names.{Bytes}
 use Rattle.convert.specs.Escape.{escape}
 use Rattle.convert.specs.Unescape.{unescape}
 use Rattle.pieces.specs.declared.Conversion.{Conversion}
 use Rattle.pieces.specs.declared.Conversion.TheVariants.{Escape, Noesc, Unesc}
-use Rattle.pieces.specs.declared.Piece.{Piece}
-use Rattle.pieces.specs.declared.Piece.TheVariants.{Literal, Reference, Broken}
-use Rattle.pieces.specs.Pieces.{piece, size}
+use Rattle.pieces.specs.Pieces.{Piece, Literal, Reference, Broken, piece, size}
 use Rattle.text.specs.declared.Mode.{Mode}
 use Rattle.text.specs.declared.Mode.TheVariants.{Plain, Address}
 
@@ -30,16 +28,16 @@ convert mode (Some Unesc) v = unescape v
 abbrev pub referred : Lookup → Bytes → Bytes
 referred look n = cond (nat_le (length n) 16) (look n) []
 
--- what a piece of the text xs gives
-abbrev pub gives : Lookup → Mode → Bytes → Piece → Bytes
-gives look mode xs (Literal b n) = b ∷ []
-gives look mode xs (Reference start len c n) = convert mode c (referred look (take len (drop start xs)))
-gives look mode xs Broken = []
+-- what a piece gives
+abbrev pub gives : Lookup → Mode → Piece → Bytes
+gives look mode (Literal b n) = b ∷ []
+gives look mode (Reference name c n) = convert mode c (referred look name)
+gives look mode Broken = []
 
 -- the pieces in turn; the first k bytes belong to a piece that was read already
 unfoldable pub fills : Lookup → Mode → ℕ → Bytes → Bytes
 fills look mode k [] = []
-fills look mode zero (x ∷ xs) = gives look mode (x ∷ xs) (piece (x ∷ xs)) ++ fills look mode (size (piece (x ∷ xs)) - 1) xs
+fills look mode zero (x ∷ xs) = gives look mode (piece (x ∷ xs)) ++ fills look mode (size (piece (x ∷ xs)) - 1) xs
 fills look mode (suc k) (x ∷ xs) = fills look mode k xs
 
 -- the filled text
@@ -49,7 +47,7 @@ filled look mode text = fills look mode 0 text
 -- at the place, if the piece is broken, else as found further on
 abbrev pub or_here : Piece → ℕ → Option ℕ → Option ℕ
 or_here (Literal b n) at more = more
-or_here (Reference start len c n) at more = more
+or_here (Reference name c n) at more = more
 or_here Broken at more = Some at
 
 -- the same reading, for the first piece that is broken; at is the place of the front

@@ -1,15 +1,15 @@
 //! Texts: what a text becomes when variables are put into it, over any source of values.
 #![tactic(auto)]
 
-ghost use Rattle.std.specs.Prelude.{◌≡◌, ℕ, ◌+◌, ◌*◌, ◌<◌, ◌≤◌, length, Some, None};
-ghost use Rattle.std.proofs.lemmas.List.Edits.{sets};
+ghost use Rattle.std.specs.Prelude.{◌≡◌, ◌≤◌, length, Some, OnOk};
 ghost use Rattle.text.specs.declared.Mode.TheVariants.{Plain};
 ghost use Rattle.convert.specs.Escape.{escape as escaped};
 ghost use Rattle.convert.specs.Unescape.{unescape as unescaped, ConversionsFit};
 ghost use Rattle.text.specs.Fill.{Lookup, convert, referred, filled, broken_at};
-ghost use Rattle.text.specs.Answers.{number_of, counted, fill_answer, convert_answer, written, room_answer};
+ghost use Rattle.text.specs.Answers.{number_of, whole, fill_answer, convert_answer, written, room_answer};
 ghost use Rattle.text.specs.Laws.{FillingKeeps};
 
+use convert::{Counter, Sink, Writer};
 use names::{MOST_NAME, MOST_TEXT};
 use pieces::{Conversion, Piece, first_piece};
 
@@ -67,101 +67,41 @@ fn value_referred<'a, V: Values>(values: &'a V, name: &[u8]) -> &'a [u8]
     values.value(name)
 }
 
-fn converted_len(value: &[u8], mode: Mode, conversion: Option<Conversion>) -> usize
-    requires { length value.now ≤ 1024 }
-    ensures count { result ≡ length (convert mode conversion value.now) }
-    ensures most { result ≤ 3 * length value.now }
+/// Sends the value, converted.
+fn send_converted<S: Sink>(value: &[u8], mode: Mode, conversion: Option<Conversion>, sink: &mut S)
+    requires { S.fits sink.old (length (convert mode conversion value.now)) }
+    ensures { S.takes sink.old (convert mode conversion value.now) sink.new }
 {
     match (conversion, mode) {
-        (Some(Conversion::Escape), _) => convert::escaped_len(value),
-        (Some(Conversion::Noesc), _) => value.len(),
-        (Some(Conversion::Unesc), _) => convert::unescaped_len(value),
-        (None, Mode::Address) => convert::escaped_len(value),
-        (None, Mode::Plain) => value.len(),
+        (Some(Conversion::Escape), _) | (None, Mode::Address) => convert::escape(value, sink),
+        (Some(Conversion::Noesc), _) | (None, Mode::Plain) => convert::copy(value, sink),
+        (Some(Conversion::Unesc), _) => convert::unescape(value, sink),
     }
 }
 
-/// How long the filled text is, or the place where the text breaks.
-fn filled_len<V: Values>(text: &[u8], values: &V, mode: Mode) -> Result<usize, usize>
-    requires { length text.now ≤ 1024 }
-    ensures { result ≡ counted (broken_at text.now) (length (filled (V.Values.lookup values.now) mode text.now)) }
-{
-    let mut at = 0;
-    let mut n = 0;
-    while at < text.len() {
-        let rest = &text[at..];
-        match first_piece(rest) {
-            Piece::Literal { size, .. } => {
-                n += 1;
-                at += size;
-            }
-            Piece::Reference {
-                start,
-                len,
-                conversion,
-                size,
-            } => {
-                let value = value_referred(values, &rest[start..start + len]);
-                n += converted_len(value, mode, conversion);
-                at += size;
-            }
-            Piece::Broken => return Err(at),
-        }
-    }
-    Ok(n)
-}
-
-fn convert_into(
-    value: &[u8],
+/// Sends the filled text, or as far as it goes before it breaks.
+fn send_filled<V: Values, S: Sink>(
+    text: &[u8],
+    values: &V,
     mode: Mode,
-    conversion: Option<Conversion>,
-    buf: &mut [u8],
-    at: usize,
-) -> usize
-    requires { at + length (convert mode conversion value.now) ≤ length buf.old }
-    ensures bytes { buf.new ≡ sets buf.old at (convert mode conversion value.now) }
-    ensures end { result ≡ at + length (convert mode conversion value.now) }
+    sink: &mut S,
+) -> Result<(), TextFault>
+    requires { S.fits sink.old (length (filled (V.Values.lookup values.now) mode text.now)) }
+    ensures answer { result ≡ whole (broken_at text.now) }
+    ensures bytes { OnOk result (S.takes sink.old (filled (V.Values.lookup values.now) mode text.now) sink.new) }
 {
-    match (conversion, mode) {
-        (Some(Conversion::Escape), _) => convert::escape_into(value, buf, at),
-        (Some(Conversion::Noesc), _) => convert::copy_into(value, buf, at),
-        (Some(Conversion::Unesc), _) => convert::unescape_into(value, buf, at),
-        (None, Mode::Address) => convert::escape_into(value, buf, at),
-        (None, Mode::Plain) => convert::copy_into(value, buf, at),
-    }
-}
-
-/// Writes the filled text to the front of a buffer that has room for it, and answers its length.
-fn fill_into<V: Values>(text: &[u8], values: &V, mode: Mode, buf: &mut [u8]) -> usize
-    requires whole { broken_at text.now ≡ None }
-    requires room { length (filled (V.Values.lookup values.now) mode text.now) ≤ length buf.old }
-    ensures bytes { buf.new ≡ sets buf.old 0 (filled (V.Values.lookup values.now) mode text.now) }
-    ensures end { result ≡ length (filled (V.Values.lookup values.now) mode text.now) }
-{
-    let mut at = 0;
-    let mut n = 0;
-    while at < text.len() {
-        let rest = &text[at..];
-        match first_piece(rest) {
-            Piece::Literal { byte, size } => {
-                buf[n] = byte;
-                n += 1;
-                at += size;
+    let mut rest = text;
+    while let Some((piece, more)) = first_piece(rest) {
+        match piece {
+            Piece::Literal(byte) => sink.put(byte),
+            Piece::Reference { name, conversion } => {
+                send_converted(value_referred(values, name), mode, conversion, sink)
             }
-            Piece::Reference {
-                start,
-                len,
-                conversion,
-                size,
-            } => {
-                let value = value_referred(values, &rest[start..start + len]);
-                n = convert_into(value, mode, conversion, buf, n);
-                at += size;
-            }
-            Piece::Broken => unreachable(),
+            Piece::Broken => return Err(TextFault::Broken(text.len() - rest.len())),
         }
+        rest = more;
     }
-    n
+    Ok(())
 }
 
 /// Writes the filled text to the front of `buf`, whose rest stays, and answers its length.
@@ -180,15 +120,14 @@ pub fn fill<V: Values>(
     if text.len() > MOST_TEXT {
         return Err(TextFault::TooLong);
     }
-    match filled_len(text, values, mode) {
-        Err(place) => Err(TextFault::Broken(place)),
-        Ok(len) => {
-            if len > buf.len() {
-                return Err(TextFault::ShortBuffer);
-            }
-            Ok(fill_into(text, values, mode, buf))
-        }
+    let mut filled = Counter::new();
+    send_filled(text, values, mode, &mut filled)?;
+    if filled.count > buf.len() {
+        return Err(TextFault::ShortBuffer);
     }
+    let mut writer = Writer::new(buf);
+    send_filled(text, values, mode, &mut writer)?;
+    Ok(writer.at)
 }
 
 /// Writes the converted bytes to the front of `buf`, whose rest stays, and answers their length.
@@ -199,10 +138,14 @@ fn convert_within(value: &[u8], conversion: Conversion, buf: &mut [u8]) -> Resul
     if value.len() > MOST_TEXT {
         return Err(TextFault::TooLong);
     }
-    if converted_len(value, Mode::Plain, Some(conversion)) > buf.len() {
+    let mut converted = Counter::new();
+    send_converted(value, Mode::Plain, Some(conversion), &mut converted);
+    if converted.count > buf.len() {
         return Err(TextFault::ShortBuffer);
     }
-    Ok(convert_into(value, Mode::Plain, Some(conversion), buf, 0))
+    let mut writer = Writer::new(buf);
+    send_converted(value, Mode::Plain, Some(conversion), &mut writer);
+    Ok(writer.at)
 }
 
 /// Writes the escaped bytes to the front of `buf`, whose rest stays, and answers their length.
