@@ -4,44 +4,31 @@
 
 use packed::PackedRun;
 use store::Store;
-use text::{Mode, TextFault, fill};
+use text::Mode::{self, Address, Plain};
+use text::{TextFault, fill};
 use variables::Variables;
 
-/// What a text should become.
-#[derive(Clone, Copy)]
-enum Expected {
-    Bytes(&'static [u8]),
-    BrokenAt(usize),
-}
-
+/// A text, and what filling it gives where there is room.
 #[derive(Clone, Copy)]
 struct Case {
     mode: Mode,
     text: &'static [u8],
-    expected: Expected,
+    expected: Result<&'static [u8], TextFault>,
 }
 
-const fn plain(text: &'static [u8], bytes: &'static [u8]) -> Case {
+const fn fills(mode: Mode, text: &'static [u8], bytes: &'static [u8]) -> Case {
     Case {
-        mode: Mode::Plain,
+        mode,
         text,
-        expected: Expected::Bytes(bytes),
+        expected: Ok(bytes),
     }
 }
 
-const fn address(text: &'static [u8], bytes: &'static [u8]) -> Case {
+const fn breaks(text: &'static [u8], place: usize) -> Case {
     Case {
-        mode: Mode::Address,
+        mode: Plain,
         text,
-        expected: Expected::Bytes(bytes),
-    }
-}
-
-const fn broken(text: &'static [u8], place: usize) -> Case {
-    Case {
-        mode: Mode::Plain,
-        text,
-        expected: Expected::BrokenAt(place),
+        expected: Err(TextFault::Broken(place)),
     }
 }
 
@@ -52,24 +39,16 @@ fn give(store: &mut PackedRun<'_>, name: &[u8], value: &[u8]) {
 
 /// The bytes past what was written are as they were.
 fn untouched(buf: &[u8], from: usize) -> bool {
-    for b in buf.iter().skip(from) {
-        if *b != b'.' {
-            return false;
-        }
-    }
-    true
+    buf.iter().skip(from).all(|b| *b == b'.')
 }
 
 /// Whether a filling into this buffer, all dots, comes out as expected.
 fn holds(case: &Case, values: &Variables<'_, PackedRun<'_>>, buf: &mut [u8]) -> bool {
     let answer = fill(case.text, values, case.mode, buf);
     match (case.expected, answer) {
-        (Expected::Bytes(bytes), Ok(n)) => n == bytes.len()
-            && buf.starts_with(bytes)
-            && untouched(buf, n),
-        (Expected::Bytes(bytes), Err(TextFault::ShortBuffer)) => buf.len() < bytes.len()
-            && untouched(buf, 0),
-        (Expected::BrokenAt(place), Err(TextFault::Broken(at))) => at == place && untouched(buf, 0),
+        (Ok(bytes), Ok(n)) => n == bytes.len() && buf.starts_with(bytes) && untouched(buf, n),
+        (Ok(bytes), Err(TextFault::ShortBuffer)) => buf.len() < bytes.len() && untouched(buf, 0),
+        (Err(expected), Err(fault)) => fault == expected && untouched(buf, 0),
         _ => false,
     }
 }
@@ -84,10 +63,7 @@ fn work(
     let heap = rt.alloc();
     let mut differ: usize = 0;
     for (i, case) in cases.iter().enumerate() {
-        let room = match case.expected {
-            Expected::Bytes(bytes) => bytes.len(),
-            Expected::BrokenAt(_) => 8,
-        };
+        let room = case.expected.map_or(8, |bytes| bytes.len());
         for size in [room, room.saturating_sub(1), room.saturating_add(3)] {
             let mut buf = vec![in heap; b'.'; size]?;
             if !holds(case, values, buf.as_mut_slice()) {
@@ -103,22 +79,23 @@ fn work(
 
 fn references(rt: &HostRuntime, values: &Variables<'_, PackedRun<'_>>) -> anyhow::Result<()> {
     let cases = [
-        plain(b"", b""),
-        plain(b"at $(t) C", b"at -18.5 C"),
-        plain(b"$t", b"-18.5"),
-        plain(b"$room/$$", b"B 2/$"),
-        plain(b"$$t$$$$", b"$t$$"),
-        plain(b"$t.$t", b"-18.5.-18.5"),
-        plain(b"$v", b"$t"),
-        plain(b"$unset|$(unset)|$(unset:e)", b"||"),
-        plain(b"$T", b""),
-        plain(b"$t2", b"second"),
-        plain(b"$_x", b"under"),
-        plain(b"$abcdefghijklmnop", b"sixteen"),
-        plain(b"$abcdefghijklmnopq", b""),
-        plain(b"$(abcdefghijklmnopq)!", b"!"),
-        plain(b"\x00\xff$t\n", b"\x00\xff-18.5\n"),
-        plain(
+        fills(Plain, b"", b""),
+        fills(Plain, b"at $(t) C", b"at -18.5 C"),
+        fills(Plain, b"$t", b"-18.5"),
+        fills(Plain, b"$room/$$", b"B 2/$"),
+        fills(Plain, b"$$t$$$$", b"$t$$"),
+        fills(Plain, b"$t.$t", b"-18.5.-18.5"),
+        fills(Plain, b"$v", b"$t"),
+        fills(Plain, b"$unset|$(unset)|$(unset:e)", b"||"),
+        fills(Plain, b"$T", b""),
+        fills(Plain, b"$t2", b"second"),
+        fills(Plain, b"$_x", b"under"),
+        fills(Plain, b"$abcdefghijklmnop", b"sixteen"),
+        fills(Plain, b"$abcdefghijklmnopq", b""),
+        fills(Plain, b"$(abcdefghijklmnopq)!", b"!"),
+        fills(Plain, b"\x00\xff$t\n", b"\x00\xff-18.5\n"),
+        fills(
+            Plain,
             b"$z",
             b"zzzzzzzzzzzzzzzzzzzzzzzzzzzzzzzzzzzzzzzzzzzzzzzzzzzzzzzzzzzzzzzz",
         ),
@@ -128,44 +105,44 @@ fn references(rt: &HostRuntime, values: &Variables<'_, PackedRun<'_>>) -> anyhow
 
 fn conversions(rt: &HostRuntime, values: &Variables<'_, PackedRun<'_>>) -> anyhow::Result<()> {
     let cases = [
-        plain(b"$(room:e)$(room:E)", b"B%202B%202"),
-        plain(b"$(room:escape)$(room:EsCaPe)", b"B%202B%202"),
-        plain(b"$(p:u)$(p:U)", b"A%4A%4"),
-        plain(b"$(p:unesc)$(p:uNeSc)", b"A%4A%4"),
-        plain(b"$(p:n)$(p:N)", b"%41%4%41%4"),
-        plain(b"$(p:noesc)$(p:NOESC)", b"%41%4%41%4"),
-        plain(b"$(h:u)", b"\xfe\xAB%g0%0g%"),
-        address(b"/log?r=$(room)&t=$t", b"/log?r=B%202&t=-18.5"),
-        address(b"/log?r=$(room:n)", b"/log?r=B 2"),
-        address(b"$$ $(p:u)", b"$ A%4"),
-        address(b"$(marks)", b"-_.!~*'()"),
-        address(b"$(bytes)", b"%00%7F%80%FF%25%2F"),
-        address(b"$v", b"%24t"),
+        fills(Plain, b"$(room:e)$(room:E)", b"B%202B%202"),
+        fills(Plain, b"$(room:escape)$(room:EsCaPe)", b"B%202B%202"),
+        fills(Plain, b"$(p:u)$(p:U)", b"A%4A%4"),
+        fills(Plain, b"$(p:unesc)$(p:uNeSc)", b"A%4A%4"),
+        fills(Plain, b"$(p:n)$(p:N)", b"%41%4%41%4"),
+        fills(Plain, b"$(p:noesc)$(p:NOESC)", b"%41%4%41%4"),
+        fills(Plain, b"$(h:u)", b"\xfe\xAB%g0%0g%"),
+        fills(Address, b"/log?r=$(room)&t=$t", b"/log?r=B%202&t=-18.5"),
+        fills(Address, b"/log?r=$(room:n)", b"/log?r=B 2"),
+        fills(Address, b"$$ $(p:u)", b"$ A%4"),
+        fills(Address, b"$(marks)", b"-_.!~*'()"),
+        fills(Address, b"$(bytes)", b"%00%7F%80%FF%25%2F"),
+        fills(Address, b"$v", b"%24t"),
     ];
     work(rt, "conversions", &cases[..], values)
 }
 
 fn broken_forms(rt: &HostRuntime, values: &Variables<'_, PackedRun<'_>>) -> anyhow::Result<()> {
     let cases = [
-        broken(b"a$", 1),
-        broken(b"$", 0),
-        broken(b"$$$", 2),
-        broken(b"$ t", 0),
-        broken(b"$1", 0),
-        broken(b"ok $(", 3),
-        broken(b"$()", 0),
-        broken(b"$(t", 0),
-        broken(b"$(t:", 0),
-        broken(b"$(t:e", 0),
-        broken(b"$(t:)", 0),
-        broken(b"$(t:x)", 0),
-        broken(b"$(t:ee)", 0),
-        broken(b"$(t:e )", 0),
-        broken(b"$(t )", 0),
-        broken(b"$( t)", 0),
-        broken(b"$(1t)", 0),
-        broken(b"$t $(t) $-", 8),
-        broken(b"$- $-", 0),
+        breaks(b"a$", 1),
+        breaks(b"$", 0),
+        breaks(b"$$$", 2),
+        breaks(b"$ t", 0),
+        breaks(b"$1", 0),
+        breaks(b"ok $(", 3),
+        breaks(b"$()", 0),
+        breaks(b"$(t", 0),
+        breaks(b"$(t:", 0),
+        breaks(b"$(t:e", 0),
+        breaks(b"$(t:)", 0),
+        breaks(b"$(t:x)", 0),
+        breaks(b"$(t:ee)", 0),
+        breaks(b"$(t:e )", 0),
+        breaks(b"$(t )", 0),
+        breaks(b"$( t)", 0),
+        breaks(b"$(1t)", 0),
+        breaks(b"$t $(t) $-", 8),
+        breaks(b"$- $-", 0),
     ];
     work(rt, "broken texts", &cases[..], values)
 }
@@ -183,7 +160,7 @@ fn lengths(rt: &HostRuntime, values: &Variables<'_, PackedRun<'_>>) -> anyhow::R
     ] {
         let text = vec![in heap; byte; size]?;
         let letter = char::from(byte);
-        match fill(text.as_slice(), values, Mode::Plain, buf.as_mut_slice()) {
+        match fill(text.as_slice(), values, Plain, buf.as_mut_slice()) {
             Ok(n) => println!(rt; "{size} times {letter}: length {n}")?,
             Err(TextFault::Broken(place)) => println!(rt;
                 "{size} times {letter}: refused 21 at place {place}"
@@ -198,7 +175,7 @@ fn lengths(rt: &HostRuntime, values: &Variables<'_, PackedRun<'_>>) -> anyhow::R
     for _ in 0..512 {
         text.extend_from_slice(b"$s")?;
     }
-    match fill(text.as_slice(), values, Mode::Address, buf.as_mut_slice()) {
+    match fill(text.as_slice(), values, Address, buf.as_mut_slice()) {
         Ok(n) => println!(rt; "512 references to 64 spaces, escaped: length {n}")?,
         Err(fault) => {
             let number = fault.number();
