@@ -1,3 +1,5 @@
 pub mod Rests
 pub mod Walking
 pub mod Kept
+pub mod Finding
+pub mod Offering

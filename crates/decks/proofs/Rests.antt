@@ -6,6 +6,7 @@ use Rattle.std.specs.Str.{bytes_eq}
 use Rattle.std.proofs.lemmas.Bool.{cond-true, cond-false, lt-ltb, le-ltb, cases_lt}
 use Rattle.decks.specs.declared.Run.{Run}
 use Rattle.decks.specs.Views.{opt, run, number_in}
+use Rattle.decks.specs.Handed.{number_among}
 use Rattle.decks.specs.Model.{first, head}
 use Rattle.std.proofs.lemmas.Option.{slice_get_past}
 use Rattle.std.proofs.lemmas.List.FromFn.{length-map-range_with_len}
@@ -84,6 +85,14 @@ nth_number f r k =
     (λ (h : k < r.count). nth_only f r.first r.count k h ∙ ap (opt f) (sym (cond-true (ltb k r.count) (Some (r.first + k)) None (lt-ltb k r.count h))))
     (λ (h : r.count ≤ k). nth-over f r.first r.count k h ∙ ap (opt f) (sym (cond-false (ltb k r.count) (Some (r.first + k)) None (le-ltb k r.count h))))
     (cases_lt k r.count)
+
+-- the element at a place of two runs is what the number there means
+pub nth_among : {X : Type 0} (f : ℕ → X) (own shared : Run) (k : ℕ) → slice_get (run f own ++ run f shared) k ≡ opt f (number_among own shared k)
+nth_among f own shared k =
+    ⊎_elim
+    (λ (h : k < own.count). nth-run f own.first own.count (run f shared) k h ∙ ap (opt f) (sym (cond-true (ltb k own.count) (Some (own.first + k)) (number_in shared (k - own.count)) (lt-ltb k own.count h))))
+    (λ (h : own.count ≤ k). nth_after f own.first own.count (run f shared) k h ∙ nth_number f shared (k - own.count) ∙ ap (opt f) (sym (cond-false (ltb k own.count) (Some (own.first + k)) (number_in shared (k - own.count)) (le-ltb k own.count h))))
+    (cases_lt k own.count)
 
 -- the number at a place of a run
 number_by : (b : Bool) (x y : ℕ) → Some x ≡ cond b (Some y) None → x ≡ y

@@ -1,12 +1,13 @@
 -- The active bindings, place by place. Assumes nothing.
 use Rattle.std.proofs.Common.{◌≡◌, ℕ, zero, suc, ◌+◌, ◌<◌, ◌≤◌, Bool, true, false, cond, ◌||◌, List, [], ◌∷◌, ◌++◌, take, drop, Some, None, sym, refl, ap, ◌∙◌, ⊎_elim, append_assoc, append-nil, add-one, arith}
-use Rattle.std.specs.List.{slice_get}
+use Rattle.std.specs.List.{slice_get, list_any}
 use Rattle.std.specs.Str.{bytes_eq}
 use Rattle.std.proofs.lemmas.Slice.Eq.{bytes_eq-Decides}
 use Rattle.std.proofs.lemmas.Bool.{cond-true, cond-false, cases_Bool, or_from, or_left, or_right, or_parts}
 use Rattle.decks.specs.Model.{Binding, first, has, actives, active_from}
 use Rattle.decks.specs.ActiveLaw.{lacking, ActiveReads}
 use Rattle.decks.proofs.Rests.{drop_at, drop-none}
+use Rattle.decks.proofs.Finding.{parted}
 
 pub take_at : {X : Type 0} (xs : List X) (k : ℕ) (x : X) → Some x ≡ slice_get xs k → take (k + 1) xs ≡ take k xs ++ (x ∷ [])
 take_at [] k x e = absurd (let z : ◌≡◌ {A = ℕ} 0 1 = cc in omega arith)
@@ -50,6 +51,17 @@ module _ (all : List Binding) (i : ℕ) where
 
   pub over : None ≡ slice_get all i → active_from all i ≡ []
   over e = ap (actives (take i all)) (drop-none all i e)
+
+-- whether some binding has the name, as `any` says it
+pub any_has : (bs : List Binding) (n : List ℕ) → list_any (λ b. bytes_eq b.name n) bs ≡ has bs n
+any_has [] n = refl
+any_has (b ∷ bs) n = ap (λ t. bytes_eq b.name n || t) (any_has bs n)
+
+pub none_has : (bs : List Binding) (n : List ℕ) → first (λ b. bytes_eq b.name n) bs ≡ None → has bs n ≡ false
+none_has [] n e = refl
+none_has (b ∷ bs) n e =
+    let h = parted (bytes_eq b.name n) b (first (λ b. bytes_eq b.name n) bs) e in
+    or_from _ _ h.0 (none_has bs n h.1)
 
 -- of a name, the first is active
 

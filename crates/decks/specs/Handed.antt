@@ -1,5 +1,5 @@
 -- Where the texts that are handed out lie in the shelf's memory. Assumes nothing.
-use Rattle.std.specs.Prelude.{◌≡◌, ℕ, ◌+◌, ◌-◌, ◌<◌, ◌≤◌, false, cond, List, take, Some, Option, nat_lt}
+use Rattle.std.specs.Prelude.{◌≡◌, ℕ, ◌+◌, ◌-◌, ◌<◌, ◌≤◌, false, cond, List, ◌++◌, take, Some, Option, nat_lt}
 use Rattle.std.specs.List.{slice_get}
 use Rattle.std.specs.Str.{bytes_eq}
 use Rattle.decks.specs.declared.Run.{Run}
@@ -8,8 +8,8 @@ use Rattle.decks.specs.declared.CardView.{CardView}
 use Rattle.decks.specs.declared.BindingView.{BindingView}
 use Rattle.decks.specs.declared.TaskView.{TaskView}
 use Rattle.decks.specs.declared.AssignmentView.{AssignmentView}
-use Rattle.decks.specs.Model.{Deck, offers, has}
-use Rattle.decks.specs.Views.{Numbered, Placed, Lies, opt, number_in, deck_of, card_of, binding_of}
+use Rattle.decks.specs.Model.{Deck, has}
+use Rattle.decks.specs.Views.{Numbered, Placed, Lies, opt, run, number_in, deck_of, card_of, binding_of}
 
 -- every text of a view is the memory's at its place
 abbrev pub DeckLies : List ℕ → DeckView → Type 0
@@ -50,18 +50,22 @@ CardPlaced n w r v = CardBetween n w r.first (r.first + r.count) v
 abbrev pub number_among : Run → Run → ℕ → Option ℕ
 number_among one other i = cond (nat_lt i one.count) (Some (one.first + i)) (number_in other (i - one.count))
 
--- the binding at place i among the card's and then the template's, at its own place
-pub record OfferPlaced (n : Numbered) (w : Placed) (d : DeckView) (c : CardView) (i : ℕ) (v : BindingView) : Type 0 where
+-- the binding at place i of two runs, at its own place
+pub record OfferAt (n : Numbered) (w : Placed) (own shared : Run) (i : ℕ) (v : BindingView) : Type 0 where
   pub number : ℕ
-  pub among : number_among c.bindings d.bindings i ≡ Some number
+  pub among : number_among own shared i ≡ Some number
   pub there : binding_of n v ≡ n.bindings number
   pub place : (v.name.place, v.label.place) ≡ w.bindings number
 
--- a binding of the card or the template, at its own place: the first of its name
-pub record BindingPlaced (n : Numbered) (w : Placed) (d : DeckView) (c : CardView) (v : BindingView) : Type 0 where
+-- a binding of two runs, at its own place: the first of its name
+pub record FirstOffer (n : Numbered) (w : Placed) (own shared : Run) (v : BindingView) : Type 0 where
   pub at : ℕ
-  pub offer : OfferPlaced n w d c at v
-  pub earliest : has (take at (offers (deck_of n d) (card_of n c))) v.name.bytes.now ≡ false
+  pub offer : OfferAt n w own shared at v
+  pub earliest : has (take at (run n.bindings own ++ run n.bindings shared)) v.name.bytes.now ≡ false
+
+-- a binding of the card or the template, at its own place: the first of its name
+abbrev pub BindingPlaced : Numbered → Placed → DeckView → CardView → BindingView → Type 0
+BindingPlaced n w d c v = FirstOffer n w c.bindings d.bindings v
 
 -- the task of a number, where there is a number, at its own place
 abbrev pub TaskPlaced : Placed → Option ℕ → Option TaskView → Type 0

@@ -7,13 +7,14 @@
 #![tactic(auto)]
 
 ghost use Rattle.std.specs.Prelude.{◌≡◌, ℕ, ◌+◌, ◌-◌, ◌<◌, ◌≤◌, List, ◌++◌, map, length, take, IfSome, Some, None, OnSome};
+ghost use Rattle.std.specs.Iterator.{at_most};
 ghost use Rattle.std.specs.List.{range_with_len, slice_get};
 ghost use Rattle.decks.specs.Model.{Deck, deck_at, with_id, named, card_at, enter_of, offers, has, pressed};
 ghost use Rattle.decks.specs.ActiveLaw.{ActiveReads};
 ghost use Rattle.decks.specs.Allowances.{Allowed, DeckAllowed};
 ghost use Rattle.decks.specs.Views.{Numbered, Placed, Lies, opt, run, number_in, deck_of, card_of, binding_of, task_of, assignment_of};
-ghost use Rattle.decks.specs.Handed.{DeckLies, CardLies, BindingLies, AssignmentLies, DeckPlaced, CardBetween, CardPlaced, OfferPlaced, BindingPlaced, AssignmentPlaced};
-ghost use Rattle.decks.specs.Walk.{Walks, StandsBefore};
+ghost use Rattle.decks.specs.Handed.{DeckLies, CardLies, BindingLies, AssignmentLies, number_among, DeckPlaced, CardBetween, CardPlaced, BindingPlaced, AssignmentPlaced};
+ghost use Rattle.decks.specs.Walk.{decks_from, DeckSteps, offers_from, offered, OfferSteps, ActiveSteps, Walks, StandsBefore};
 
 mod words;
 
@@ -136,6 +137,36 @@ pub trait Shelf {
         ensures lies { Lies (memory self.now) result.name × Lies (memory self.now) result.value };
 }
 
+/// The decks of a shelf from a place on, in their order.
+#[derive(Drop)]
+pub struct Decks<'a, S> {
+    pub shelf: &'a S,
+    pub next: usize,
+}
+
+impl<'a, S> Decks<'a, S> {
+    /// The decks of a shelf, from the first on.
+    pub fn of(shelf: &'a S) -> Self
+        ensures { result ≡ decks_from shelf.entry 0 }
+    {
+        Decks { shelf, next: 0 }
+    }
+}
+
+impl<'a, S: Shelf> Iterator for Decks<'a, S> {
+    type Item = DeckView<'a>;
+
+    ghost next_gives = { λ s r t. DeckSteps (S.Shelf.decks s.shelf.now) (S.Shelf.parts s.shelf.now) (S.Shelf.places s.shelf.now) (S.Shelf.memory s.shelf.now) s r t };
+
+    ghost remaining = { λ s. at_most (length (S.Shelf.decks s.shelf.now) - s.next) };
+
+    fn next(&mut self) -> Option<DeckView<'a>> {
+        let deck = self.shelf.deck(self.next)?;
+        self.next += 1;
+        Some(deck)
+    }
+}
+
 /// The deck at an address, if the shelf has one; it keeps every allowance.
 pub fn find_deck<'a, S: Shelf>(shelf: &'a S, address: &[u8]) -> Option<DeckView<'a>>
     ensures found { opt (deck_of (S.Shelf.parts shelf.now)) result ≡ deck_at (S.Shelf.decks shelf.now) address.now }
@@ -143,14 +174,7 @@ pub fn find_deck<'a, S: Shelf>(shelf: &'a S, address: &[u8]) -> Option<DeckView<
     ensures lies { IfSome result (DeckLies (S.Shelf.memory shelf.now)) }
     ensures placed { IfSome result (DeckPlaced (S.Shelf.decks shelf.now) (S.Shelf.parts shelf.now) (S.Shelf.places shelf.now)) }
 {
-    let mut k = 0;
-    while let Some(deck) = shelf.deck(k) {
-        if deck.address.bytes == address {
-            return Some(deck);
-        }
-        k += 1;
-    }
-    None
+    Decks::of(shelf).find(|deck| deck.address.bytes == address)
 }
 
 /// The first card with an id, of those from a number up to another.
@@ -222,70 +246,124 @@ pub fn enter_task(deck: &DeckView, card: &CardView, way: Way) -> Option<u16>
     }
 }
 
+impl Run {
+    /// The number at place `k`, if there.
+    fn number(self, k: usize) -> Option<usize>
+        ensures value { result ≡ number_in self k }
+        ensures few { OnSome result (k < 255) }
+    {
+        if k < self.count as usize {
+            Some(self.first as usize + k)
+        } else {
+            None
+        }
+    }
+}
+
+/// The bindings that a card of a deck offers, from a place on: the card's own, then the template's.
+#[derive(Drop)]
+pub struct Offers<'a, S> {
+    pub shelf: &'a S,
+    pub own: Run,
+    pub shared: Run,
+    pub next: usize,
+}
+
+impl<'a, S> Offers<'a, S> {
+    /// The bindings that a card of a deck offers, from the first on.
+    pub fn of(shelf: &'a S, deck: &DeckView, card: &CardView) -> Self
+        ensures { result ≡ offers_from shelf.entry card.now.bindings deck.now.bindings 0 }
+    {
+        Offers {
+            shelf,
+            own: card.bindings,
+            shared: deck.bindings,
+            next: 0,
+        }
+    }
+}
+
+impl<'a, S: Shelf> Offers<'a, S> {
+    /// The number of the binding at the place of the walk, if there.
+    fn number(&self) -> Option<usize>
+        ensures among { result ≡ number_among self.now.own self.now.shared self.now.next }
+        ensures within { OnSome result (self.now.next < self.now.own.count + self.now.shared.count) }
+        ensures few { OnSome result (self.now.next < 510) }
+    {
+        let own = self.own.count as usize;
+        if self.next < own {
+            self.own.number(self.next)
+        } else {
+            self.shared.number(self.next - own)
+        }
+    }
+
+    /// Whether one of the first `k` bindings has the name.
+    fn has_before(&self, k: usize, name: &[u8]) -> bool
+        ensures { result ≡ has (take k (offered (S.Shelf.parts self.now.shelf.now) self.now)) name.now }
+    {
+        Offers { next: 0, ..*self }
+            .take(k)
+            .any(|binding| binding.name.bytes == name)
+    }
+}
+
+impl<'a, S: Shelf> Iterator for Offers<'a, S> {
+    type Item = BindingView<'a>;
+
+    ghost next_gives = { λ s r t. OfferSteps (S.Shelf.parts s.shelf.now) (S.Shelf.places s.shelf.now) (S.Shelf.memory s.shelf.now) s r t };
+
+    ghost remaining = { λ s. at_most (s.own.count + s.shared.count - s.next) };
+
+    fn next(&mut self) -> Option<BindingView<'a>> {
+        let number = self.number()?;
+        self.next += 1;
+        Some(self.shelf.binding(number))
+    }
+}
+
+/// The active bindings of a card of a deck, from a place on: of the offered ones of equal names the
+/// first.
+#[derive(Drop)]
+pub struct Active<'a, S> {
+    pub offers: Offers<'a, S>,
+}
+
+impl<'a, S> Active<'a, S> {
+    /// The active bindings of a card of a deck, from the first on.
+    pub fn of(shelf: &'a S, deck: &DeckView, card: &CardView) -> Self
+        ensures first { result.offers ≡ offers_from shelf.entry card.now.bindings deck.now.bindings 0 }
+        ensures reads { ActiveReads }
+    {
+        Active {
+            offers: Offers::of(shelf, deck, card),
+        }
+    }
+}
+
+impl<'a, S: Shelf> Iterator for Active<'a, S> {
+    type Item = BindingView<'a>;
+
+    ghost next_gives = { λ s r t. ActiveSteps (S.Shelf.parts s.offers.shelf.now) (S.Shelf.places s.offers.shelf.now) (S.Shelf.memory s.offers.shelf.now) s.offers r t.offers };
+
+    ghost remaining = { λ s. at_most (s.offers.own.count + s.offers.shared.count - s.offers.next) };
+
+    fn next(&mut self) -> Option<BindingView<'a>> {
+        loop {
+            let place = self.offers.next;
+            let binding = self.offers.next()?;
+            if !self.offers.has_before(place, binding.name.bytes) {
+                return Some(binding);
+            }
+        }
+    }
+}
+
 /// An active binding, with the place from which the walk goes on.
 #[derive(Clone, Copy)]
 pub struct Walked<'a> {
     pub binding: BindingView<'a>,
     pub next: usize,
-}
-
-/// The binding at a place among the card's and then the template's.
-fn offered<'a, S: Shelf>(
-    shelf: &'a S,
-    deck: &DeckView,
-    card: &CardView,
-    i: usize,
-) -> Option<BindingView<'a>>
-    ensures found { opt (binding_of (S.Shelf.parts shelf.now)) result ≡ slice_get (offers (deck_of (S.Shelf.parts shelf.now) deck.now) (card_of (S.Shelf.parts shelf.now) card.now)) i }
-    ensures few { OnSome result (i < 510) }
-    ensures lies { IfSome result (BindingLies (S.Shelf.memory shelf.now)) }
-    ensures placed { IfSome result (OfferPlaced (S.Shelf.parts shelf.now) (S.Shelf.places shelf.now) deck.now card.now i) }
-{
-    let own = card.bindings.count as usize;
-    if i < own {
-        return Some(shelf.binding(card.bindings.first as usize + i));
-    }
-    let j = i - own;
-    if j < deck.bindings.count as usize {
-        return Some(shelf.binding(deck.bindings.first as usize + j));
-    }
-    None
-}
-
-/// The active binding of a name, if there.
-pub fn find_binding<'a, S: Shelf>(
-    shelf: &'a S,
-    deck: &DeckView,
-    card: &CardView,
-    name: &[u8],
-) -> Option<BindingView<'a>>
-    ensures found { opt (binding_of (S.Shelf.parts shelf.now)) result ≡ pressed (deck_of (S.Shelf.parts shelf.now) deck.now) (card_of (S.Shelf.parts shelf.now) card.now) name.now }
-    ensures lies { IfSome result (BindingLies (S.Shelf.memory shelf.now)) }
-    ensures placed { IfSome result (BindingPlaced (S.Shelf.parts shelf.now) (S.Shelf.places shelf.now) deck.now card.now) }
-{
-    let mut i = 0;
-    while let Some(binding) = offered(shelf, deck, card, i) {
-        if binding.name.bytes == name {
-            return Some(binding);
-        }
-        i += 1;
-    }
-    None
-}
-
-/// Whether a binding before place `i` has the name.
-fn hidden<S: Shelf>(shelf: &S, deck: &DeckView, card: &CardView, i: usize, name: &[u8]) -> bool
-    ensures { result ≡ has (take i (offers (deck_of (S.Shelf.parts shelf.now) deck.now) (card_of (S.Shelf.parts shelf.now) card.now))) name.now }
-{
-    for j in 0..i {
-        let Some(binding) = offered(shelf, deck, card, j) else {
-            return false;
-        };
-        if binding.name.bytes == name {
-            return true;
-        }
-    }
-    false
 }
 
 /// The first active binding at place `i` or after it, among the card's bindings and then the
@@ -302,28 +380,33 @@ pub fn next_active<'a, S: Shelf>(
     ensures lies { IfSome result (λ v. BindingLies (S.Shelf.memory shelf.now) v.binding) }
     ensures placed { IfSome result (λ v. BindingPlaced (S.Shelf.parts shelf.now) (S.Shelf.places shelf.now) deck.now card.now v.binding) }
 {
-    let mut at = i;
-    while let Some(binding) = offered(shelf, deck, card, at) {
-        if !hidden(shelf, deck, card, at, binding.name.bytes) {
-            return Some(Walked {
-                binding,
-                next: at + 1,
-            });
-        }
-        at += 1;
-    }
-    None
+    let mut active = Active {
+        offers: Offers {
+            shelf,
+            own: card.bindings,
+            shared: deck.bindings,
+            next: i,
+        },
+    };
+    let binding = active.next()?;
+    Some(Walked {
+        binding,
+        next: active.offers.next,
+    })
 }
 
-/// The number at place `k` of a run, if there.
-fn number_in(run: Run, k: usize) -> Option<usize>
-    ensures { result ≡ number_in run k }
+/// The active binding of a name, if there.
+pub fn find_binding<'a, S: Shelf>(
+    shelf: &'a S,
+    deck: &DeckView,
+    card: &CardView,
+    name: &[u8],
+) -> Option<BindingView<'a>>
+    ensures found { opt (binding_of (S.Shelf.parts shelf.now)) result ≡ pressed (deck_of (S.Shelf.parts shelf.now) deck.now) (card_of (S.Shelf.parts shelf.now) card.now) name.now }
+    ensures lies { IfSome result (BindingLies (S.Shelf.memory shelf.now)) }
+    ensures placed { IfSome result (BindingPlaced (S.Shelf.parts shelf.now) (S.Shelf.places shelf.now) deck.now card.now) }
 {
-    if k < run.count as usize {
-        Some(run.first as usize + k)
-    } else {
-        None
-    }
+    Offers::of(shelf, deck, card).find(|binding| binding.name.bytes == name)
 }
 
 /// The assignment at place `k` of a task, if there.
@@ -336,8 +419,6 @@ pub fn assignment_of<'a, S: Shelf>(
     ensures lies { IfSome result (AssignmentLies (S.Shelf.memory shelf.now)) }
     ensures placed { IfSome result (AssignmentPlaced (S.Shelf.places shelf.now) task.now.assignments k) }
 {
-    match number_in(task.assignments, k) {
-        Some(number) => Some(shelf.assignment(number)),
-        None => None,
-    }
+    let number = task.assignments.number(k)?;
+    Some(shelf.assignment(number))
 }
