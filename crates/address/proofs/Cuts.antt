@@ -123,3 +123,6 @@ pub has-any : (x : ℕ) (xs : List ℕ) → has x xs ≡ list_any (λ b. eqb b x
 unfolding has
 has-any x [] = refl
 has-any x (b ∷ xs) = ap (λ t. eqb b x || t) (has-any x xs)
+
+pub any_has : (x : ℕ) (xs : List ℕ) (r : Bool) → r ≡ list_any (λ b. eqb b x) xs → r ≡ has x xs
+any_has x xs r h = h ∙ sym (has-any x xs)

@@ -1,12 +1,10 @@
 -- The parts of a lawful address, and where they lie in the memory that holds it.
-use Rattle.std.proofs.Common.{◌≡◌, ℕ, suc, ◌+◌, ◌-◌, ◌≤◌, true, false, Bor, List, [], ◌∷◌, ◌++◌, length, take, drop, Option, Some, None, Ok, Err, Result, sym, refl, ap, ◌∙◌, inl, inr, add-one, arith, length-append}
+use Rattle.std.proofs.Common.{◌≡◌, ℕ, suc, ◌+◌, ◌-◌, ◌≤◌, min, true, false, List, ◌∷◌, ◌++◌, length, take, drop, Some, None, Ok, Err, Result, sym, refl, ap, ◌∙◌, inl, inr, add-one, arith, length-append}
 use Rattle.std.specs.List.{between}
 use Rattle.std.specs.Result.{IsErr}
-use Rattle.std.specs.Slice.{IsGetRangeResult}
-use Rattle.std.specs.Option.{unwrap_or}
-use Rattle.std.proofs.lemmas.List.{take-take, length-take-le, drop_all, take_all}
+use Rattle.std.proofs.lemmas.List.{take-take, length-take-le, drop_all}
 use Rattle.std.proofs.lemmas.Slice.{between_is}
-use Rattle.std.proofs.lemmas.Bool.{cases_Bool, cond-true, cond-false, false≢true}
+use Rattle.std.proofs.lemmas.Bool.{cases_Bool, cases_lt, cond-true, cond-false, false≢true}
 use Rattle.address.specs.declared.layout.Layout.{Layout}
 use Rattle.address.specs.declared.memory.Address.{Address}
 use Rattle.address.specs.declared.fault.Unlawful.{Unlawful}
@@ -54,36 +52,23 @@ module _ (m : List ℕ) (n : ℕ) where
   unfolding deck_of
   deck-part d r h = sym (take-take d n m h) ∙ ap (λ i. take i (take n m)) r ∙ sym (before-take hash (take n m))
 
--- what stands one past the deck address, where there is anything
-pub fragment-got : (a b : List ℕ) (d : ℕ) (r : Option (Bor (List ℕ))) (e : Bor (List ℕ)) → d ≡ length (deck_of a) → b ≡ a → IsGetRangeResult b (d + 1) (length b) r → e.now ≡ [] → (unwrap_or r e).now ≡ fragment_of a
-unfolding deck_of fragment_of
-fragment-got a b d None e q s h n =
-    let k = ap length s in
-    n ∙ sym (drop_all (suc (length (deck_of a))) a (elim h.0 [ inl x ↦ omega arith | inr x ↦ omega arith ])) ∙ sym (after-drop hash a)
-fragment-got a b d (Some x) e q s h n =
-    let o : d + 1 ≡ suc (length (deck_of a)) = add-one d ∙ ap suc q in
-    h.0.2 ∙ between_is b (d + 1) (length b) ∙ ap (drop (d + 1)) (take_all (length b) b (omega arith))
-    ∙ ap (λ i. drop i b) o ∙ ap (drop (suc (length (deck_of a)))) s ∙ sym (after-drop hash a)
-
--- where the parts of a lawful address lie in the memory that holds it
-pub record Lies (m : List ℕ) (n p d : ℕ) : Type 0 where
-  pub begins : 7 ≤ p
-  pub order : p ≤ d
-  pub inside : d ≤ n
-  pub room : n ≤ length m
-
-pub lies : (m : List ℕ) (n p d : ℕ) → length m ≡ 128 → n ≤ 128 → lawful (take n m) ≡ true → p ≡ 7 + length (host_of (take n m)) → d ≡ length (deck_of (take n m)) → Lies m n p d
-lies m n p d r w e q s =
-    let k = deck-length (take n m) e in
-    let i = deck-within (take n m) in
-    let l = length-take-le n m (omega arith) in
-    record { begins = omega arith; order = omega arith; inside = omega arith; room = omega arith }
+  -- the fragment begins after the `#`, or at the end where there is none
+  pub fragment-part : (d f : ℕ) → d ≡ length (deck_of (take n m)) → f ≡ min n (d + 1) → n ≤ length m → between f n m ≡ fragment_of (take n m)
+  unfolding deck_of fragment_of
+  fragment-part d f r q k =
+      let l = length-take-le n m k in
+      between_is m f n ∙ elim (cases_lt d n) [
+        | inl h ↦ ap (λ i. drop i (take n m)) (let e : f ≡ d + 1 = omega arith in e ∙ add-one d ∙ ap suc r) ∙ sym (after-drop hash (take n m))
+        | inr h ↦ drop_all f (take n m) (omega arith) ∙ sym (after-drop hash (take n m) ∙ drop_all (suc (length (deck_of (take n m)))) (take n m) (omega arith))
+      ]
 
 -- what a layout that was found says
 pub record Found (a : List ℕ) (l : Layout) : Type 0 where
   pub holds : lawful a ≡ true
   pub path : l.path ≡ 7 + length (host_of a)
   pub deck : l.deck ≡ length (deck_of a)
+  pub order : l.path ≤ l.deck
+  pub inside : l.deck ≤ length a
 
 pub found : (a : List ℕ) (l : Layout) → Some l ≡ layout_of a → Found a l
 found a l h =
@@ -93,7 +78,11 @@ found a l h =
     ] in
     let s : Some l ≡ Some (places_of a) = h ∙ cond-true (lawful a) _ _ e in
     let q : l ≡ places_of a = cc in
-    record { holds = e; path = ap (λ x. x.path) q; deck = ap (λ x. x.deck) q }
+    let p : l.path ≡ 7 + length (host_of a) = ap (λ x. x.path) q in
+    let d : l.deck ≡ length (deck_of a) = ap (λ x. x.deck) q in
+    let k = deck-length a e in
+    let w = deck-within a in
+    record { holds = e; path = p; deck = d; order = omega arith; inside = omega arith }
 
 pub not_found : (a : List ℕ) → None ≡ layout_of a → lawful a ≡ false
 not_found a h =

@@ -23,6 +23,7 @@ pub enum Kind {
 
 impl Kind {
     /// Which kind of reference it is.
+    #[tactic(auto, using(crate::proofs::Schemes::same_deck, crate::proofs::Schemes::net_path, crate::proofs::Schemes::absolute_path))]
     pub fn of(reference: &[u8]) -> Kind
         ensures { result ≡ kind_of reference.now }
     {

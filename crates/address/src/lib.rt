@@ -29,6 +29,7 @@ pub fn is_lawful(bytes: &[u8]) -> bool
 }
 
 /// Whether the bytes are a lawful address without `#`.
+#[tactic(auto, using(crate::proofs::Cuts::any_has))]
 pub fn is_deck_address(bytes: &[u8]) -> bool
     ensures { result ≡ is_deck_address bytes.now }
 {

@@ -6,7 +6,7 @@
 
 ghost use Rattle.std.specs.Prelude.{◌≡◌, ◌≤◌, ◌++◌, length};
 ghost use Rattle.address.specs.Address.{scheme, host_of, path_of};
-ghost use Rattle.address.specs.Resolve.{directory_of, resolve};
+ghost use Rattle.address.specs.Resolve.{kind_of, directory_of, resolve};
 ghost use Rattle.address.specs.Meaning.{address_of, answered};
 ghost use Rattle.resolve.specs.Laws.{ResolutionLaws};
 ghost use Rattle.resolve.specs.Examples.{References};
@@ -43,6 +43,21 @@ fn directory(current: &Address) -> &[u8]
     &current.as_bytes()[..7 + current.host().len() + directory_len(current.path())]
 }
 
+/// What the reference makes with the current address, where `kind` is its kind.
+fn join_as(kind: Kind, current: &Address, reference: &[u8]) -> Result<Address, Unlawful>
+    ensures meaning { kind ≡ kind_of reference.now → answered result ≡ resolve (address_of current.now) reference.now }
+    ensures laws { ResolutionLaws }
+    ensures examples { References }
+{
+    match kind {
+        Kind::SameDeck => Address::join(current.deck(), reference),
+        Kind::Absolute => Address::parse(reference),
+        Kind::AbsolutePath => Address::join(root(current), reference),
+        Kind::RelativePath => Address::join(directory(current), reference),
+        Kind::NetPath | Kind::OtherScheme => Err(Unlawful),
+    }
+}
+
 /// The address that the reference means where `current` is the current address, if it is lawful.
 pub fn resolve(current: &Address, reference: &[u8]) -> Result<Address, Unlawful>
     ensures meaning { answered result ≡ resolve (address_of current.now) reference.now }
@@ -52,11 +67,5 @@ pub fn resolve(current: &Address, reference: &[u8]) -> Result<Address, Unlawful>
     if reference.len() > MOST {
         return Err(Unlawful);
     }
-    match Kind::of(reference) {
-        Kind::SameDeck => Address::join(current.deck(), reference),
-        Kind::Absolute => Address::parse(reference),
-        Kind::AbsolutePath => Address::join(root(current), reference),
-        Kind::RelativePath => Address::join(directory(current), reference),
-        Kind::NetPath | Kind::OtherScheme => Err(Unlawful),
-    }
+    join_as(Kind::of(reference), current, reference)
 }

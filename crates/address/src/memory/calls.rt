@@ -37,7 +37,12 @@ impl Address {
         ensures { answered result ≡ if_lawful (take len bytes) }
     {
         let layout = Layout::of(&bytes[..len]).ok_or(Unlawful)?;
-        Ok(Address { bytes, len, layout })
+        Ok(Address {
+            bytes,
+            len,
+            layout,
+            fragment: len.min(layout.deck + 1),
+        })
     }
 
     /// The address that `bytes` spell, if it is lawful.
@@ -72,7 +77,7 @@ impl Address {
     pub fn fragment(&self) -> &[u8]
         ensures { result.now ≡ fragment_of (address_of self.now) }
     {
-        self.as_bytes().get(self.layout.deck + 1..).unwrap_or(&[])
+        &self.bytes[self.fragment..self.len]
     }
 
     /// The deck address: what precedes `#`.

@@ -2,24 +2,9 @@
 use Rattle.std.proofs.Common.{◌≡◌, ◌≤◌, length, get_or, true, false, sym, arith, rules}
 use Rattle.address.specs.Address.{scheme}
 use Rattle.address.proofs.Runs.{begins-tested}
-use Rattle.address.proofs.Schemes.{same_deck, net_path, absolute_path, absolute, other_scheme, relative_path}
+use Rattle.address.proofs.Schemes.{absolute, other_scheme, relative_path}
 use Rattle.address.proofs.kind.Kind.of.Goals as goal
 use Rattle.address.proofs.kind.Kind.of.Goals.{then-reference-lt2+in_default-1, else-reference-lt2+in_default-1}
-
-pub returns-in-47 : goal.returns-in-47
-returns-in-47 c = net_path c.args.reference.now (omega arith) (omega arith)
-
-pub returns-in-47-2 : goal.returns-in-47-2
-returns-in-47-2 c = absolute_path c.args.reference.now (omega arith) (λ l e. omega arith)
-
-pub returns-in-47-2-2 : goal.returns-in-47-2-2
-returns-in-47-2-2 c = absolute_path c.args.reference.now (omega arith) (λ l e. omega arith)
-
-pub returns-in-empty-2 : goal.returns-in-empty-2
-returns-in-empty-2 c = same_deck c.args.reference.now (omega arith)
-
-pub returns-in-empty-3 : goal.returns-in-empty-3
-returns-in-empty-3 c = same_deck c.args.reference.now (omega arith)
 
 pub returns-in-len1-up : goal.returns-in-len1-up
 returns-in-len1-up c = absolute c.args.reference.now (sym (begins-tested scheme c.args.reference.now true c.if-starts_with.ensures.value))
