@@ -272,12 +272,17 @@ impl Writer {
     }
 
     fn trailer(&self, out: &mut Vec<u8>) -> anyhow::Result<()> {
-        put_number(out, short(self.pool.len())?)?;
-        put_number(out, short(self.decks.len())?)?;
-        put_number(out, short(self.cards.len())?)?;
-        put_number(out, short(self.bindings.len())?)?;
-        put_number(out, short(self.tasks.len())?)?;
-        put_number(out, short(self.assignments.len())?)?;
+        let counts = [
+            self.pool.len(),
+            self.decks.len(),
+            self.cards.len(),
+            self.bindings.len(),
+            self.tasks.len(),
+            self.assignments.len(),
+        ];
+        for count in counts {
+            put_number(out, short(count)?)?;
+        }
         out.push(1)?;
         out.push(0x57)?;
         Ok(())
@@ -285,10 +290,7 @@ impl Writer {
 }
 
 fn put_number(out: &mut Vec<u8>, n: u16) -> Result<(), AllocError> {
-    let [high, low] = n.to_be_bytes();
-    out.push(high)?;
-    out.push(low)?;
-    Ok(())
+    out.extend_from_slice(&n.to_be_bytes())
 }
 
 fn put_ref(out: &mut Vec<u8>, r: Ref) -> Result<(), AllocError> {
