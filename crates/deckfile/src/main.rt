@@ -7,7 +7,7 @@
 
 use anyhow::anyhow;
 use deck_text::Writer;
-use decks::{CardView, DeckView, Part, Run, Shelf, TaskView};
+use decks::{CardView, DeckView, Decks, Part, Run, Shelf, TaskView};
 use file_tables::FileTables;
 use judge::{deck_address, record_ok, size_of, stands_from};
 use shelf_file::FileShelf;
@@ -95,7 +95,7 @@ fn show_deck<S: Shelf>(rt: &HostRuntime, shelf: &S, deck: &DeckView) -> anyhow::
 }
 
 fn show_decks<S: Shelf>(rt: &HostRuntime, shelf: &S) -> anyhow::Result<()> {
-    for deck in (0..65_536).map_while(|k| shelf.deck(k)) {
+    for deck in Decks::of(shelf) {
         show_deck(rt, shelf, &deck)?;
     }
     Ok(())

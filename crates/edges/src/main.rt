@@ -3,7 +3,7 @@
 #![tactic(auto)]
 
 use anyhow::anyhow;
-use decks::{BindingView, CardView, Part, Shelf, TaskView};
+use decks::{BindingView, CardView, Decks, Part, Shelf, TaskView};
 use file_tables::FileTables;
 use hex_text::bytes_of;
 use loaded::Loaded;
@@ -16,9 +16,7 @@ use tables::{Cause, Tables};
 
 /// How many decks a shelf has.
 fn deck_count<S: Shelf>(shelf: &S) -> usize {
-    (0..65_536)
-        .find(|k| shelf.deck(*k).is_none())
-        .unwrap_or(65_536)
+    Decks::of(shelf).count()
 }
 
 /// One file of the list: the number that is expected, a label, and the bytes.
