@@ -8,7 +8,7 @@
 
 use packed::PackedRun;
 use slots::{Slot, SlotTable};
-use std::alloc::Global;
+use std::fmt::Display;
 use store::{Refusal, Store};
 use store_laws::{Operation, work_all_both, work_both};
 
@@ -16,8 +16,8 @@ use store_laws::{Operation, work_all_both, work_both};
 const SIZES: [usize; 9] = [0, 63, 64, 65, 66, 76, 331, 4160, 5000];
 
 /// More bytes than a value may have.
-const DIGITS: &str =
-    "01234567890123456789012345678901234567890123456789012345678901234567890123456789";
+const DIGITS: &[u8] =
+    b"01234567890123456789012345678901234567890123456789012345678901234567890123456789";
 
 /// The operation of a line, if it is one.
 fn operation_of(line: &str) -> Option<Operation<'_>> {
@@ -27,7 +27,7 @@ fn operation_of(line: &str) -> Option<Operation<'_>> {
     let rest = words.next().unwrap_or("");
     match verb {
         "set" => Some(Operation::Set(name, rest.as_bytes())),
-        "long" => Some(Operation::Set(name, front(rest))),
+        "long" => Some(Operation::Set(name, front(rest.parse().unwrap_or(DIGITS.len())))),
         "unset" => Some(Operation::Set(name, b"")),
         "value" => Some(Operation::Value(name)),
         "clear" => Some(Operation::Clear),
@@ -35,34 +35,22 @@ fn operation_of(line: &str) -> Option<Operation<'_>> {
     }
 }
 
-/// So many digits.
-fn front(count: &str) -> &'static [u8] {
-    let digits = DIGITS.as_bytes();
-    match count.parse::<usize>() {
-        Ok(n) => &digits[0..n.min(digits.len())],
-        Err(_) => digits,
-    }
+/// So many digits, or all.
+fn front(len: usize) -> &'static [u8] {
+    &DIGITS[..len.min(DIGITS.len())]
 }
 
 /// The bytes as text, with a mark where they are none.
 fn text(bytes: &[u8]) -> &str {
-    match std::str::from_utf8(bytes) {
-        Ok(text) => text,
-        Err(_) => "?",
-    }
-}
-
-/// What the store answers to a set.
-fn outcome(answer: Result<(), Refusal>) -> &'static str {
-    match answer {
-        Ok(()) => "ok",
-        Err(Refusal::Unstorable) => "12",
-        Err(Refusal::NoRoom) => "24",
-    }
+    std::str::from_utf8(bytes).unwrap_or("?")
 }
 
 /// Prints an answer, and how full the store is.
-fn print_answer<S: Store>(rt: &HostRuntime, store: &S, answer: &str) -> anyhow::Result<()> {
+fn print_answer<S: Store, A: Display + Drop>(
+    rt: &HostRuntime,
+    store: &S,
+    answer: A,
+) -> anyhow::Result<()> {
     println!(rt;
         "{answer}; names {}, bytes {}",
         store.count(),
@@ -71,12 +59,24 @@ fn print_answer<S: Store>(rt: &HostRuntime, store: &S, answer: &str) -> anyhow::
     Ok(())
 }
 
+/// Prints what the store answered to a set: `ok`, or the number of the refusal.
+fn print_outcome<S: Store>(
+    rt: &HostRuntime,
+    store: &S,
+    outcome: Result<(), Refusal>,
+) -> anyhow::Result<()> {
+    match outcome {
+        Ok(()) => print_answer(rt, store, "ok"),
+        Err(refusal) => print_answer(rt, store, refusal.number()),
+    }
+}
+
 /// Works an operation, and prints what the store answers.
 fn work<S: Store>(rt: &HostRuntime, store: &mut S, operation: Operation<'_>) -> anyhow::Result<()> {
     match operation {
         Operation::Set(name, value) => {
-            let answer = outcome(store.set(name, value));
-            print_answer(rt, store, answer)
+            let outcome = store.set(name, value);
+            print_outcome(rt, store, outcome)
         }
         Operation::Value(name) => print_answer(rt, store, text(store.value(name))),
         Operation::Clear => {
@@ -89,14 +89,11 @@ fn work<S: Store>(rt: &HostRuntime, store: &mut S, operation: Operation<'_>) -> 
 
 /// Sets names with the longest value up to the first refusal.
 fn fill<S: Store>(rt: &HostRuntime, store: &mut S) -> anyhow::Result<()> {
-    for i in 0..99u8 {
+    let outcome = (0..99u8).try_for_each(|i| {
         let name = [b'n', b'0' + i / 10, b'0' + i % 10];
-        let answer = outcome(store.set(&name, front("64")));
-        if answer != "ok" {
-            return print_answer(rt, store, answer);
-        }
-    }
-    print_answer(rt, store, "ok")
+        store.set(&name, front(64))
+    });
+    print_outcome(rt, store, outcome)
 }
 
 /// Works the table on one store.
@@ -147,10 +144,8 @@ fn found_memory(rt: &HostRuntime) -> anyhow::Result<()> {
 /// Whether two stores, once cleared, answer the table alike.
 fn side_by_side<A: Store, B: Store>(a: &mut A, b: &mut B, table: &[String]) -> bool {
     let mut alike = work_all_both(a, b, &[Operation::Clear, Operation::MostNames]);
-    for line in table {
-        if let Some(operation) = operation_of(line.as_str()) {
-            alike &= work_both(a, b, operation);
-        }
+    for operation in table.iter().filter_map(|line| operation_of(line.as_str())) {
+        alike &= work_both(a, b, operation);
     }
     alike
 }
@@ -191,22 +186,15 @@ fn slots_beside_packed(
     Ok(())
 }
 
-/// The lines of the input.
-fn read_table(rt: &HostRuntime, heap: Global) -> anyhow::Result<Vec<String>> {
-    let mut table = Vec::new(heap);
-    for line in rt.lines(heap) {
-        table.push(line?)?;
-    }
-    Ok(table)
-}
-
 fn main(rt: HostRuntime) -> anyhow::Result<()> {
-    let table = read_table(&rt, rt.alloc())?;
-    packed_runs(&rt, table.as_slice())?;
+    let heap = rt.alloc();
+    let lines: Vec<String> = rt.lines(heap).try_collect(heap)?;
+    let table = lines.as_slice();
+    packed_runs(&rt, table)?;
     found_memory(&rt)?;
-    packed_beside_packed(&rt, table.as_slice(), 0, 64)?;
-    packed_beside_packed(&rt, table.as_slice(), 65, 66)?;
-    packed_beside_packed(&rt, table.as_slice(), 4160, 5000)?;
-    slots_beside_packed(&rt, table.as_slice(), 32, 2624)?;
-    slots_beside_packed(&rt, table.as_slice(), 31, 2624)
+    packed_beside_packed(&rt, table, 0, 64)?;
+    packed_beside_packed(&rt, table, 65, 66)?;
+    packed_beside_packed(&rt, table, 4160, 5000)?;
+    slots_beside_packed(&rt, table, 32, 2624)?;
+    slots_beside_packed(&rt, table, 31, 2624)
 }
