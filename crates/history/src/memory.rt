@@ -1,5 +1,5 @@
 //! What a history holds.
-ghost use Rattle.std.specs.Prelude.{◌≡◌, ◌≤◌, length};
+ghost use Rattle.std.specs.Prelude.{◌≡◌, length};
 
 use address::Address;
 
@@ -8,10 +8,7 @@ mod calls;
 /// At most sixteen addresses, the newest first.
 #[derive(Clone, Copy)]
 pub struct History {
-    /// The addresses, and then some without meaning.
-    entries: [Address; 16],
-    /// How many addresses there are.
-    count: usize,
-    ghost within: { count ≤ 16 },
+    /// The addresses, and from the first `None` on nothing that counts: inline, since the browser uses no heap.
+    entries: [Option<Address>; 16],
     ghost whole: { length entries ≡ 16 },
 }

@@ -10,22 +10,13 @@ ghost use Rattle.history.specs.Kept.{kept};
 use super::History;
 use address::Address;
 
-/// An address to fill memory with.
-fn filler() -> Address {
-    match Address::parse(b"http://h/") {
-        Ok(address) => address,
-        Err(_) => unreachable(),
-    }
-}
-
 impl History {
     /// No address.
     pub fn new() -> History
         ensures { kept result ≡ [] }
     {
         History {
-            entries: [filler(); 16],
-            count: 0,
+            entries: [None; 16],
         }
     }
 
@@ -33,7 +24,7 @@ impl History {
     pub fn clear(&mut self)
         ensures { kept self.new ≡ [] }
     {
-        self.count = 0;
+        self.entries = [None; 16];
     }
 
     /// Adds the address of a card that was entered by a go; the oldest leaves if there were sixteen.
@@ -41,19 +32,16 @@ impl History {
         ensures { kept self.new ≡ moved Forward (address_of address) (kept self.old) }
     {
         self.entries.rotate_right(1);
-        self.entries[0] = address;
-        if self.count < 16 {
-            self.count += 1;
-        }
+        self.entries[0] = Some(address);
     }
 
     /// Removes the newest address, if there is one.
     pub fn pop(&mut self)
         ensures { kept self.new ≡ moved Backward [] (kept self.old) }
     {
-        if self.count > 0 {
+        if self.entries[0].is_some() {
+            self.entries[0] = None;
             self.entries.rotate_left(1);
-            self.count -= 1;
         }
     }
 
@@ -61,19 +49,15 @@ impl History {
     pub fn newest(&self) -> Option<Address>
         ensures { opt address_of result ≡ newest (kept self.now) }
     {
-        if self.count == 0 {
-            return None;
-        }
-        Some(self.entries[0])
+        let [newest, ..] = self.entries;
+        newest
     }
 
     /// The address before it, if there is one.
     pub fn second(&self) -> Option<Address>
         ensures { opt address_of result ≡ second (kept self.now) }
     {
-        if self.count < 2 {
-            return None;
-        }
-        Some(self.entries[1])
+        let [newest, second, ..] = self.entries;
+        newest.and(second)
     }
 }
