@@ -1,5 +1,5 @@
 -- Laws of escape and unescape. Assumes nothing.
-use Rattle.std.proofs.Common.{◌≡◌, ℕ, zero, suc, ◌+◌, ◌*◌, ◌/◌, ◌%◌, ◌<◌, ◌≤◌, Bool, true, false, ◌&&◌, eqb, List, [], ◌∷◌, length, get_or, drop, refl, ap, ◌∙◌, arith}
+use Rattle.std.proofs.Common.{◌≡◌, ℕ, zero, suc, ◌+◌, ◌*◌, ◌/◌, ◌%◌, ◌<◌, ◌≤◌, Bool, true, false, ◌&&◌, eqb, List, [], ◌∷◌, length, get_or, drop, codes, refl, ap, ◌∙◌, arith}
 use Rattle.std.specs.List.{AllByRecursion}
 use Rattle.std.proofs.lemmas.List.{drop_more}
 use Rattle.std.proofs.lemmas.Bool.{cond-true, cond-false, cond_both, and_left, and_parts, and_from, eq-eqb, eqb-true}
@@ -25,6 +25,12 @@ digits_right b = coded 37 (upper_digit (b / 16)) (upper_digit (b % 16)) && eqb (
 
 digits_right_lem : (b : ℕ) → b < 256 → digits_right b ≡ true
 digits_right_lem b h = (Decides-below_and digits_right (λ k. digits_right k ≡ true) (λ n. all_below n digits_right) (λ k. (λ e. e, λ e. e)) refl (λ _. refl) 256).0 refl b h
+
+-- the digits in a row
+pub upper_digit-listed : (n : ℕ) → n < 16 → get_or (codes "0123456789ABCDEF") n 0 ≡ upper_digit n
+upper_digit-listed n h =
+    let listed = λ (k : ℕ). eqb (get_or (codes "0123456789ABCDEF") k 0) (upper_digit k) in
+    eqb-true _ _ ((Decides-below_and listed (λ k. listed k ≡ true) (λ k. all_below k listed) (λ k. (λ e. e, λ e. e)) refl (λ _. refl) 16).0 refl n h)
 
 unescape-keep : (a : ℕ) (xs : List ℕ) → eqb a 37 ≡ false → unescape (a ∷ xs) ≡ a ∷ unescape xs
 unescape-keep a [] h = refl

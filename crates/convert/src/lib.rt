@@ -24,7 +24,7 @@ fn upper_digit(n: u8) -> u8
     requires { n < 16 }
     ensures { result ≡ upper_digit n }
 {
-    if n < 10 { b'0' + n } else { b'A' - 10 + n }
+    b"0123456789ABCDEF"[usize::from(n)]
 }
 
 /// Sends the escaped value.
@@ -46,7 +46,7 @@ pub fn escape<S: Sink>(value: &[u8], sink: &mut S)
 fn is_hex(b: u8) -> bool
     ensures { result ≡ is_hex b }
 {
-    matches!(b, b'0'..=b'9' | b'A'..=b'F' | b'a'..=b'f')
+    b.is_ascii_hexdigit()
 }
 
 fn are_hex(hi: u8, lo: u8) -> bool
@@ -55,6 +55,7 @@ fn are_hex(hi: u8, lo: u8) -> bool
     is_hex(hi) && is_hex(lo)
 }
 
+// The library's `to_digit` would answer an option, where the pattern has already asked.
 fn hex_value(b: u8) -> u8
     requires { is_hex b ≡ true }
     ensures value { result ≡ hex_value b }

@@ -45,7 +45,7 @@ fn front_name_len(text: &[u8]) -> usize
     }
 }
 
-/// How many bytes the longest name at `from` has, 0 where none begins there.
+/// How many bytes the longest name at `from` has, 0 where none begins there: a name has one byte at least.
 pub fn name_len(text: &[u8], from: usize) -> usize
     ensures value { result ≡ name_len (drop from text.now) }
     ensures within { result ≤ length text.now - from }

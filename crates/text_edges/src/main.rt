@@ -16,7 +16,7 @@ struct Case {
     expected: Result<&'static [u8], TextFault>,
 }
 
-const fn fills(mode: Mode, text: &'static [u8], bytes: &'static [u8]) -> Case {
+fn fills(mode: Mode, text: &'static [u8], bytes: &'static [u8]) -> Case {
     Case {
         mode,
         text,
@@ -24,7 +24,7 @@ const fn fills(mode: Mode, text: &'static [u8], bytes: &'static [u8]) -> Case {
     }
 }
 
-const fn breaks(text: &'static [u8], place: usize) -> Case {
+fn breaks(text: &'static [u8], place: usize) -> Case {
     Case {
         mode: Plain,
         text,
@@ -77,8 +77,8 @@ fn work(
     Ok(())
 }
 
-fn references(rt: &HostRuntime, values: &Variables<'_, PackedRun<'_>>) -> anyhow::Result<()> {
-    let cases = [
+fn references() -> [Case; 16] {
+    [
         fills(Plain, b"", b""),
         fills(Plain, b"at $(t) C", b"at -18.5 C"),
         fills(Plain, b"$t", b"-18.5"),
@@ -99,12 +99,11 @@ fn references(rt: &HostRuntime, values: &Variables<'_, PackedRun<'_>>) -> anyhow
             b"$z",
             b"zzzzzzzzzzzzzzzzzzzzzzzzzzzzzzzzzzzzzzzzzzzzzzzzzzzzzzzzzzzzzzzz",
         ),
-    ];
-    work(rt, "references", &cases[..], values)
+    ]
 }
 
-fn conversions(rt: &HostRuntime, values: &Variables<'_, PackedRun<'_>>) -> anyhow::Result<()> {
-    let cases = [
+fn conversions() -> [Case; 13] {
+    [
         fills(Plain, b"$(room:e)$(room:E)", b"B%202B%202"),
         fills(Plain, b"$(room:escape)$(room:EsCaPe)", b"B%202B%202"),
         fills(Plain, b"$(p:u)$(p:U)", b"A%4A%4"),
@@ -118,12 +117,11 @@ fn conversions(rt: &HostRuntime, values: &Variables<'_, PackedRun<'_>>) -> anyho
         fills(Address, b"$(marks)", b"-_.!~*'()"),
         fills(Address, b"$(bytes)", b"%00%7F%80%FF%25%2F"),
         fills(Address, b"$v", b"%24t"),
-    ];
-    work(rt, "conversions", &cases[..], values)
+    ]
 }
 
-fn broken_forms(rt: &HostRuntime, values: &Variables<'_, PackedRun<'_>>) -> anyhow::Result<()> {
-    let cases = [
+fn broken_forms() -> [Case; 19] {
+    [
         breaks(b"a$", 1),
         breaks(b"$", 0),
         breaks(b"$$$", 2),
@@ -143,8 +141,7 @@ fn broken_forms(rt: &HostRuntime, values: &Variables<'_, PackedRun<'_>>) -> anyh
         breaks(b"$(1t)", 0),
         breaks(b"$t $(t) $-", 8),
         breaks(b"$- $-", 0),
-    ];
-    work(rt, "broken texts", &cases[..], values)
+    ]
 }
 
 /// Texts of 1,024 and 1,025 bytes, and the longest that a filling can give.
@@ -202,9 +199,9 @@ fn run(rt: &HostRuntime) -> anyhow::Result<()> {
     give(&mut store, b"s", &[b' '; 64]);
     give(&mut store, b"z", &[b'z'; 64]);
     let values = Variables { store: &store };
-    references(rt, &values)?;
-    conversions(rt, &values)?;
-    broken_forms(rt, &values)?;
+    work(rt, "references", &references(), &values)?;
+    work(rt, "conversions", &conversions(), &values)?;
+    work(rt, "broken texts", &broken_forms(), &values)?;
     lengths(rt, &values)
 }
 
