@@ -1,14 +1,14 @@
 //! One call on two handhelds at once, each over its own store and before its own shelf, and whether they answered alike.
 #![tactic(auto)]
 
-use browser::{LandedTicket, OutwardTicket, Step};
+use browser::{OutwardTicket, Step};
 use decks::Shelf;
 use rounds::{Ask, Reply, work_both};
-use script_answers::{failed, page, refused, written};
+use script_answers::{failed, refused, written};
 use script_handheld::Handheld;
 use script_texts::DeskError;
 use script_tickets::Pocket;
-use script_words::{buffer, size_of};
+use script_words::{Command, buffer, size_of};
 use std::alloc::{AllocError, Global};
 use store::Store;
 
@@ -26,27 +26,54 @@ enum Sort {
     Writing,
 }
 
-/// A reply as a script says it. A ticket comes to lie with the handheld.
-fn told<S: Store + Drop>(
-    heap: Global,
-    handheld: &mut Handheld<S>,
-    sort: Sort,
-    reply: Reply,
-    buf: &[u8],
-) -> Result<String, AllocError> {
-    match reply {
-        Reply::Done => format!(in heap; "done"),
-        Reply::Standing => handheld.stepped(Step::Standing),
-        Reply::Outward(ticket) => handheld.stepped(Step::Outward(ticket)),
-        Reply::Landed(ticket) => handheld.stepped(Step::Landed(ticket)),
-        Reply::Wrote(len) => written(heap, Ok(len), buf),
-        Reply::Page(shown) => page(heap, Ok(shown), buf),
-        Reply::Declined(fault) => {
-            match sort {
-                Sort::Plain => refused(heap, fault),
-                Sort::Entering => failed(heap, fault),
-                Sort::Writing => written(heap, Err(fault), buf),
-            }
+/// A buffer for each of the two.
+#[derive(Drop)]
+struct Buffers {
+    first: Vec<u8>,
+    second: Vec<u8>,
+}
+
+impl Buffers {
+    /// Each of this size.
+    fn new(heap: Global, size: usize) -> Result<Buffers, AllocError> {
+        Ok(Buffers {
+            first: buffer(heap, size)?,
+            second: buffer(heap, size)?,
+        })
+    }
+
+    /// None, for a call that is lent none.
+    fn none(heap: Global) -> Buffers {
+        Buffers {
+            first: Vec::new(heap),
+            second: Vec::new(heap),
+        }
+    }
+}
+
+/// A handheld, and the shelf that its calls come before.
+#[derive(Drop)]
+struct Side<'a, S, H> {
+    handheld: &'a mut Handheld<S>,
+    shelf: &'a H,
+}
+
+impl<'a, S: Store + Drop, H: Shelf> Side<'a, S, H> {
+    /// A reply as a script says it. A ticket comes to lie with the handheld.
+    fn told(&mut self, sort: Sort, reply: Reply, buf: &[u8]) -> Result<String, AllocError> {
+        let heap = self.handheld.heap;
+        match reply {
+            Reply::Done => format!(in heap; "done"),
+            Reply::Standing => self.handheld.stepped(Step::Standing),
+            Reply::Outward(ticket) => self.handheld.stepped(Step::Outward(ticket)),
+            Reply::Landed(ticket) => self.handheld.stepped(Step::Landed(ticket)),
+            Reply::Wrote(len) => written(heap, Ok(len), buf),
+            Reply::Page(shown) => written(heap, Ok(shown), buf),
+            Reply::Declined(fault) => match sort {
+                Sort::Plain => refused(fault).to_string(heap),
+                Sort::Entering => failed(fault).to_string(heap),
+                Sort::Writing => written::<usize>(heap, Err(fault), buf),
+            },
         }
     }
 }
@@ -60,265 +87,136 @@ fn compared(heap: Global, first: String, second: String) -> Result<String, Alloc
     }
 }
 
-/// Works one call on each, and says what each replied.
-fn ask_both<P: Store + Drop, H: Shelf, Q: Store + Drop, K: Shelf>(
-    heap: Global,
-    one: &mut Handheld<P>,
-    shelf: &H,
-    ask: Ask<'_>,
-    two: &mut Handheld<Q>,
-    other: &K,
-    same: Ask<'_>,
-    sort: Sort,
-    buf: &mut [u8],
-    copy: &mut [u8],
-) -> Result<String, DeskError> {
-    let (x, y) = work_both(
-        &mut one.browser,
-        shelf,
-        ask,
-        buf,
-        &mut two.browser,
-        other,
-        same,
-        copy,
-    );
-    let first = told(heap, one, sort, x, buf);
-    let second = told(heap, two, sort, y, copy);
-    Ok(compared(heap, first?, second?)?)
+/// Two handhelds that are asked the same.
+#[derive(Drop)]
+struct Pair<'a, P, H, Q, K> {
+    one: Side<'a, P, H>,
+    two: Side<'a, Q, K>,
 }
 
-/// The outward tickets that lie with the two.
-fn outward<P: Store + Drop, Q: Store + Drop>(
-    one: &mut Handheld<P>,
-    two: &mut Handheld<Q>,
-) -> Result<(OutwardTicket, OutwardTicket), DeskError> {
-    let first = one.outward()?;
-    match two.outward() {
-        Ok(second) => Ok((first, second)),
-        Err(error) => {
-            one.hand_in(Pocket::Outward(first));
-            Err(error)
-        }
+/// The same call for each of the two: a call holds a ticket or lent bytes, so it is made twice and not copied.
+macro_rules! twice {
+    ($ask:expr) => {
+        ($ask, $ask)
+    };
+}
+
+impl<'a, P: Store + Drop, H: Shelf, Q: Store + Drop, K: Shelf> Pair<'a, P, H, Q, K> {
+    /// Works one call on each, and says what each replied.
+    fn ask(
+        &mut self,
+        asked: (Ask<'_>, Ask<'_>),
+        sort: Sort,
+        mut lent: Buffers,
+    ) -> Result<String, DeskError> {
+        let Pair { one, two } = self;
+        let (x, y) = work_both(
+            &mut one.handheld.browser,
+            one.shelf,
+            asked.0,
+            lent.first.as_mut_slice(),
+            &mut two.handheld.browser,
+            two.shelf,
+            asked.1,
+            lent.second.as_mut_slice(),
+        );
+        let first = one.told(sort, x, lent.first.as_slice());
+        let second = two.told(sort, y, lent.second.as_slice());
+        Ok(compared(one.handheld.heap, first?, second?)?)
     }
-}
 
-/// The landed tickets that lie with the two.
-fn landed<P: Store + Drop, Q: Store + Drop>(
-    one: &mut Handheld<P>,
-    two: &mut Handheld<Q>,
-) -> Result<(LandedTicket, LandedTicket), DeskError> {
-    let first = one.landed()?;
-    match two.landed() {
-        Ok(second) => Ok((first, second)),
-        Err(error) => {
-            one.hand_in(Pocket::Landed(first));
-            Err(error)
-        }
+    /// A call that is lent no buffer.
+    fn tell(&mut self, asked: (Ask<'_>, Ask<'_>), sort: Sort) -> Result<String, DeskError> {
+        let lent = Buffers::none(self.one.handheld.heap);
+        self.ask(asked, sort, lent)
     }
-}
 
-/// The calls that spend the tickets which lie with the two.
-fn spend_both<P: Store + Drop, H: Shelf, Q: Store + Drop, K: Shelf>(
-    heap: Global,
-    one: &mut Handheld<P>,
-    shelf: &H,
-    two: &mut Handheld<Q>,
-    other: &K,
-    verb: &[u8],
-) -> Result<String, DeskError> {
-    let sort = Sort::Entering;
-    let buf: &mut [u8] = &mut [0; 0];
-    let copy: &mut [u8] = &mut [0; 0];
-    match verb {
-        b"arrive" => {
-            let (a, b) = outward(one, two)?;
-            let (ask, same) = (Ask::Arrive(a), Ask::Arrive(b));
-            ask_both(heap, one, shelf, ask, two, other, same, sort, buf, copy)
-        }
-        b"give-up" => {
-            let (a, b) = outward(one, two)?;
-            let (ask, same) = (Ask::GiveUp(a), Ask::GiveUp(b));
-            ask_both(heap, one, shelf, ask, two, other, same, sort, buf, copy)
-        }
-        b"follow" => {
-            let (a, b) = landed(one, two)?;
-            let (ask, same) = (Ask::Follow(a), Ask::Follow(b));
-            ask_both(heap, one, shelf, ask, two, other, same, sort, buf, copy)
-        }
-        _ => Err(DeskError::Usage(USAGE)),
-    }
-}
-
-/// The target, asked by the outward tickets that lie with the two.
-fn target_both<P: Store + Drop, H: Shelf, Q: Store + Drop, K: Shelf>(
-    heap: Global,
-    one: &mut Handheld<P>,
-    shelf: &H,
-    two: &mut Handheld<Q>,
-    other: &K,
-    size: usize,
-) -> Result<String, DeskError> {
-    let mut buf = buffer(heap, size)?;
-    let mut copy = buffer(heap, size)?;
-    let (a, b) = outward(one, two)?;
-    let answer = ask_both(
-        heap,
-        one,
-        shelf,
-        Ask::Target(&a),
-        two,
-        other,
-        Ask::Target(&b),
-        Sort::Writing,
-        buf.as_mut_slice(),
-        copy.as_mut_slice(),
-    );
-    one.hand_in(Pocket::Outward(a));
-    two.hand_in(Pocket::Outward(b));
-    answer
-}
-
-/// The calls that begin something, or set a variable.
-fn begin_both<P: Store + Drop, H: Shelf, Q: Store + Drop, K: Shelf>(
-    heap: Global,
-    one: &mut Handheld<P>,
-    shelf: &H,
-    two: &mut Handheld<Q>,
-    other: &K,
-    verb: &[u8],
-    args: &[Vec<u8>],
-) -> Result<String, DeskError> {
-    let sort = Sort::Plain;
-    let buf: &mut [u8] = &mut [0; 0];
-    let copy: &mut [u8] = &mut [0; 0];
-    match (verb, args) {
-        (b"start", [address]) => {
-            let address = address.as_slice();
-            let (ask, same) = (Ask::Start(address), Ask::Start(address));
-            ask_both(heap, one, shelf, ask, two, other, same, sort, buf, copy)
-        }
-        (b"press", [name]) => {
-            let name = name.as_slice();
-            let (ask, same) = (Ask::Press(name), Ask::Press(name));
-            ask_both(heap, one, shelf, ask, two, other, same, sort, buf, copy)
-        }
-        (b"type", [name, value]) => {
-            let (name, value) = (name.as_slice(), value.as_slice());
-            let (ask, same) = (Ask::TypeIn(name, value), Ask::TypeIn(name, value));
-            ask_both(heap, one, shelf, ask, two, other, same, sort, buf, copy)
-        }
-        _ => Err(DeskError::Usage(USAGE)),
-    }
-}
-
-/// The calls that only read and take a text: fill and value.
-fn look_up_both<P: Store + Drop, H: Shelf, Q: Store + Drop, K: Shelf>(
-    heap: Global,
-    one: &mut Handheld<P>,
-    shelf: &H,
-    two: &mut Handheld<Q>,
-    other: &K,
-    verb: &[u8],
-    text: &[u8],
-    buf: &mut [u8],
-    copy: &mut [u8],
-) -> Result<String, DeskError> {
-    let sort = Sort::Writing;
-    match verb {
-        b"fill-in" => {
-            let (ask, same) = (Ask::Fill(text), Ask::Fill(text));
-            ask_both(heap, one, shelf, ask, two, other, same, sort, buf, copy)
-        }
-        b"value-of" => {
-            let (ask, same) = (Ask::Value(text), Ask::Value(text));
-            ask_both(heap, one, shelf, ask, two, other, same, sort, buf, copy)
-        }
-        _ => Err(DeskError::Usage(USAGE)),
-    }
-}
-
-/// The calls that only read and take nothing: show and address.
-fn look_at_both<P: Store + Drop, H: Shelf, Q: Store + Drop, K: Shelf>(
-    heap: Global,
-    one: &mut Handheld<P>,
-    shelf: &H,
-    two: &mut Handheld<Q>,
-    other: &K,
-    verb: &[u8],
-    buf: &mut [u8],
-    copy: &mut [u8],
-) -> Result<String, DeskError> {
-    let sort = Sort::Writing;
-    match verb {
-        b"show" => {
-            let (ask, same) = (Ask::Show, Ask::Show);
-            ask_both(heap, one, shelf, ask, two, other, same, sort, buf, copy)
-        }
-        b"address" => {
-            let (ask, same) = (Ask::Address, Ask::Address);
-            ask_both(heap, one, shelf, ask, two, other, same, sort, buf, copy)
-        }
-        _ => Err(DeskError::Usage(USAGE)),
-    }
-}
-
-/// The calls that only read, but for target.
-fn read_both<P: Store + Drop, H: Shelf, Q: Store + Drop, K: Shelf>(
-    heap: Global,
-    one: &mut Handheld<P>,
-    shelf: &H,
-    two: &mut Handheld<Q>,
-    other: &K,
-    verb: &[u8],
-    size: usize,
-    args: &[Vec<u8>],
-) -> Result<String, DeskError> {
-    let mut buf = buffer(heap, size)?;
-    let mut copy = buffer(heap, size)?;
-    let (buf, copy) = (buf.as_mut_slice(), copy.as_mut_slice());
-    match args {
-        [] => look_at_both(heap, one, shelf, two, other, verb, buf, copy),
-        [text, ..] => look_up_both(
-            heap,
-            one,
-            shelf,
-            two,
-            other,
-            verb,
-            text.as_slice(),
-            buf,
-            copy,
-        ),
-    }
-}
-
-/// A call on both handhelds: any of the twelve but new.
-pub fn both<P: Store + Drop, H: Shelf, Q: Store + Drop, K: Shelf>(
-    heap: Global,
-    one: &mut Handheld<P>,
-    shelf: &H,
-    two: &mut Handheld<Q>,
-    other: &K,
-    verb: &[u8],
-    args: &[Vec<u8>],
-) -> Result<String, DeskError> {
-    match (verb, args) {
-        (b"arrive" | b"give-up" | b"follow", []) => {
-            spend_both(heap, one, shelf, two, other, verb)
-        }
-        (b"start" | b"press" | b"type", _) => {
-            begin_both(heap, one, shelf, two, other, verb, args)
-        }
-        (_, [size, rest @ ..]) => {
-            let Some(size) = size_of(size.as_slice()) else {
-                return Err(DeskError::Usage(USAGE));
-            };
-            match verb {
-                b"target" => target_both(heap, one, shelf, two, other, size),
-                _ => read_both(heap, one, shelf, two, other, verb, size, rest),
+    /// The tickets of a kind that lie with the two.
+    fn tickets<T: TryFrom<Pocket, Error = Pocket> + Into<Pocket>>(
+        &mut self,
+    ) -> Result<(T, T), DeskError> {
+        let first: T = self.one.handheld.ticket()?;
+        match self.two.handheld.ticket() {
+            Ok(second) => Ok((first, second)),
+            Err(error) => {
+                self.one.handheld.hand_in(first.into());
+                Err(error)
             }
         }
-        _ => Err(DeskError::Usage(USAGE)),
     }
+
+    /// The target, asked by the outward tickets that lie with the two.
+    fn target(&mut self, lent: Buffers) -> Result<String, DeskError> {
+        let (first, second) = self.tickets::<OutwardTicket>()?;
+        let asked = (Ask::Target(&first), Ask::Target(&second));
+        let answer = self.ask(asked, Sort::Writing, lent);
+        self.one.handheld.hand_in(first.into());
+        self.two.handheld.hand_in(second.into());
+        answer
+    }
+
+    /// A call that only reads, into a buffer of this size.
+    fn read(&mut self, size: usize, command: Command<'_>) -> Result<String, DeskError> {
+        let lent = Buffers::new(self.one.handheld.heap, size)?;
+        let asked = match (command.verb, command.args) {
+            (b"target", _) => return self.target(lent),
+            (b"show", []) => twice!(Ask::Show),
+            (b"address", []) => twice!(Ask::Address),
+            (b"fill-in", [text, ..]) => twice!(Ask::Fill(text.as_slice())),
+            (b"value-of", [name, ..]) => twice!(Ask::Value(name.as_slice())),
+            _ => return Err(DeskError::Usage(USAGE)),
+        };
+        self.ask(asked, Sort::Writing, lent)
+    }
+
+    /// The call that a command asks of both.
+    fn work(mut self, command: Command<'_>) -> Result<String, DeskError> {
+        match (command.verb, command.args) {
+            (b"start", [address]) => {
+                self.tell(twice!(Ask::Start(address.as_slice())), Sort::Plain)
+            }
+            (b"press", [name]) => self.tell(twice!(Ask::Press(name.as_slice())), Sort::Plain),
+            (b"type", [name, value]) => {
+                let (name, value) = (name.as_slice(), value.as_slice());
+                self.tell(twice!(Ask::TypeIn(name, value)), Sort::Plain)
+            }
+            (b"arrive", []) => {
+                let (first, second) = self.tickets()?;
+                self.tell((Ask::Arrive(first), Ask::Arrive(second)), Sort::Entering)
+            }
+            (b"give-up", []) => {
+                let (first, second) = self.tickets()?;
+                self.tell((Ask::GiveUp(first), Ask::GiveUp(second)), Sort::Entering)
+            }
+            (b"follow", []) => {
+                let (first, second) = self.tickets()?;
+                self.tell((Ask::Follow(first), Ask::Follow(second)), Sort::Entering)
+            }
+            (verb, [room, args @ ..]) => {
+                let size = size_of(room.as_slice()).ok_or(DeskError::Usage(USAGE))?;
+                self.read(size, Command { verb, args })
+            }
+            _ => Err(DeskError::Usage(USAGE)),
+        }
+    }
+}
+
+/// A call on both handhelds, each before its own shelf: any of the twelve but new.
+pub fn both<'a, P: Store + Drop, H: Shelf, Q: Store + Drop, K: Shelf>(
+    one: &'a mut Handheld<P>,
+    shelf: &'a H,
+    two: &'a mut Handheld<Q>,
+    other: &'a K,
+    command: Command<'_>,
+) -> Result<String, DeskError> {
+    let one = Side {
+        handheld: one,
+        shelf,
+    };
+    let two = Side {
+        handheld: two,
+        shelf: other,
+    };
+    let pair = Pair { one, two };
+    pair.work(command)
 }

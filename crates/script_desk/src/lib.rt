@@ -6,7 +6,7 @@ use script_rounds::Rounds;
 use script_shelves::Shelves;
 use script_stores::Stores;
 use script_texts::{DeskError, convert, on_address};
-use script_words::words;
+use script_words::{Command, words};
 use std::alloc::Global;
 use std::io::Read;
 
@@ -39,17 +39,17 @@ impl Desk {
     }
 
     /// Works one command, and says what it answered.
-    fn work(&mut self, verb: &[u8], args: &[Vec<u8>]) -> Result<String, DeskError> {
-        match verb {
-            b"store" => self.stores.make(args),
+    fn work(&mut self, command: Command<'_>) -> Result<String, DeskError> {
+        match command.verb {
+            b"store" => self.stores.make(command.args),
             b"set" | b"clear" | b"value" | b"count" | b"bytes" | b"limits" | b"fill" => {
-                self.stores.work(verb, args)
+                self.stores.work(command)
             }
-            b"shelf" => self.shelves.make(args),
-            b"ask" => self.shelves.ask(args),
-            b"handheld" => self.rounds.make(args),
-            b"hand" => self.rounds.hand(args),
-            b"both" => self.rounds.work_both(&self.shelves, args),
+            b"shelf" => self.shelves.make(command.args),
+            b"ask" => self.shelves.ask(command.args),
+            b"handheld" => self.rounds.make(command.args),
+            b"hand" => self.rounds.hand(command.args),
+            b"both" => self.rounds.work_both(&self.shelves, command.args),
             b"new"
             | b"start"
             | b"press"
@@ -61,55 +61,39 @@ impl Desk {
             | b"show"
             | b"fill-in"
             | b"value-of"
-            | b"address" => { self.rounds.work(&self.shelves, verb, args) }
-            b"escape" | b"unescape" => convert(self.heap, verb, args),
-            b"lawful" | b"parts" | b"resolve" => on_address(self.heap, verb, args),
+            | b"address" => { self.rounds.work(&self.shelves, command) }
+            b"escape" | b"unescape" => convert(self.heap, command),
+            b"lawful" | b"parts" | b"resolve" => on_address(self.heap, command),
             _ => Err(DeskError::UnknownCommand),
         }
     }
-}
 
-/// One line, whose number counts from 1. An empty line, and one that begins with `#`, is passed over.
-fn work_line(rt: &HostRuntime, desk: &mut Desk, number: usize, line: &[u8]) -> anyhow::Result<()> {
-    let heap = rt.alloc();
-    let asked = String::from_utf8_lossy(heap, line)?;
-    let words = match words(heap, line) {
-        Ok(words) => words,
-        Err(error) => {
-            let why = error.message();
-            println!(rt; "line {number}: {why}: {asked}")?;
-            return Ok(());
-        }
-    };
-    let [verb, args @ ..] = words.as_slice() else {
-        return Ok(());
-    };
-    if verb.as_slice().first() == Some(&b'#') {
-        return Ok(());
-    }
-    match desk.work(verb.as_slice(), args) {
-        Ok(answer) => println!(rt; "{asked} => {answer}")?,
-        Err(error) => {
-            let why = error.message();
-            println!(rt; "line {number}: {why}: {asked}")?;
+    /// Works one line. One that is empty, and one that begins with `#`, is passed over without an answer.
+    fn work_line(&mut self, line: &[u8]) -> Result<Option<String>, DeskError> {
+        let words = words(self.heap, line)?;
+        match words.as_slice() {
+            [] => Ok(None),
+            [verb, ..] if verb.as_slice().starts_with(b"#") => Ok(None),
+            [verb, args @ ..] => {
+                let verb = verb.as_slice();
+                Ok(Some(self.work(Command { verb, args })?))
+            }
         }
     }
-    Ok(())
 }
 
-/// The lines of a script, one after another.
+/// The lines of a script, one after another, counted from 1.
 fn work_lines(rt: &HostRuntime, desk: &mut Desk, script: &[u8]) -> anyhow::Result<()> {
-    let mut number: usize = 0;
-    let mut start = 0;
-    for (i, b) in script.iter().enumerate() {
-        if *b == b'\n' {
-            number = number.saturating_add(1);
-            work_line(rt, desk, number, &script[start..i])?;
-            start = i + 1;
+    for (before, line) in script.split(|b| *b == b'\n').enumerate() {
+        let asked = String::from_utf8_lossy(rt.alloc(), line)?;
+        match desk.work_line(line) {
+            Ok(None) => {}
+            Ok(Some(answer)) => println!(rt; "{asked} => {answer}")?,
+            Err(error) => {
+                let number = before.saturating_add(1);
+                println!(rt; "line {number}: {error}: {asked}")?;
+            }
         }
-    }
-    if start < script.len() {
-        work_line(rt, desk, number.saturating_add(1), &script[start..])?;
     }
     Ok(())
 }

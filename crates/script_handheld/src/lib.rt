@@ -1,10 +1,12 @@
 //! One handheld of a script: a browser over a store, and the ticket that lies with it.
 #![tactic(auto)]
 
-use browser::{Browser, LandedTicket, OutwardTicket, Step};
+ghost use Rattle.std.specs.Prelude.{◌≡◌, IfErr};
+
+use browser::{Browser, Step};
 use decks::Shelf;
 use faults::CallFault;
-use script_answers::{done, failed, page, refused, written};
+use script_answers::{BufferAnswer, Declined, done, failed, refused, written};
 use script_texts::DeskError;
 use script_tickets::Pocket;
 use script_words::buffer;
@@ -14,7 +16,7 @@ use store::Store;
 
 /// A browser with its number, and a place for one ticket.
 pub struct Handheld<S> {
-    heap: Global,
+    pub heap: Global,
     number: u8,
     pub browser: Browser<S>,
     pocket: Pocket,
@@ -59,22 +61,13 @@ impl<S: Store + Drop> Handheld<S> {
         pocket.empty();
     }
 
-    /// Takes the outward ticket that lies here.
-    pub fn outward(&mut self) -> Result<OutwardTicket, DeskError> {
-        match self.hand_out() {
-            Pocket::Outward(ticket) => Ok(ticket),
-            other => {
-                self.hand_in(other);
-                Err(DeskError::NoTicket)
-            }
-        }
-    }
-
-    /// Takes the landed ticket that lies here.
-    pub fn landed(&mut self) -> Result<LandedTicket, DeskError> {
-        match self.hand_out() {
-            Pocket::Landed(ticket) => Ok(ticket),
-            other => {
+    /// Takes the ticket of a kind that lies here.
+    pub fn ticket<T: TryFrom<Pocket, Error = Pocket>>(&mut self) -> Result<T, DeskError>
+        ensures { IfErr result (λ error. error ≡ DeskError.NoTicket) }
+    {
+        match T::try_from(self.hand_out()) {
+            Ok(ticket) => Ok(ticket),
+            Err(other) => {
                 self.hand_in(other);
                 Err(DeskError::NoTicket)
             }
@@ -87,11 +80,11 @@ impl<S: Store + Drop> Handheld<S> {
         match step {
             Step::Standing => format!(in self.heap; "standing"),
             Step::Outward(ticket) => {
-                self.hand_in(Pocket::Outward(ticket));
+                self.hand_in(ticket.into());
                 format!(in self.heap; "outward ticket {number}")
             }
             Step::Landed(ticket) => {
-                self.hand_in(Pocket::Landed(ticket));
+                self.hand_in(ticket.into());
                 format!(in self.heap; "landed ticket {number}")
             }
         }
@@ -104,43 +97,43 @@ impl<S: Store + Drop> Handheld<S> {
         format!(in self.heap; "done")
     }
 
+    /// Says where a call led, or why it led nowhere.
+    fn led(&mut self, answer: Result<Step, Declined>) -> Result<String, AllocError> {
+        match answer {
+            Ok(step) => self.stepped(step),
+            Err(declined) => declined.to_string(self.heap),
+        }
+    }
+
     /// Sets out for an address.
     pub fn start(&mut self, address: &[u8]) -> Result<String, AllocError> {
-        match self.browser.start(address) {
-            Ok(ticket) => self.stepped(Step::Outward(ticket)),
-            Err(fault) => refused(self.heap, fault),
-        }
+        let answer = self.browser.start(address);
+        self.led(answer.map(Step::Outward).map_err(refused))
     }
 
     /// Takes the task of a binding.
     pub fn press<H: Shelf>(&mut self, shelf: &H, name: &[u8]) -> Result<String, AllocError> {
-        match self.browser.press(shelf, name) {
-            Ok(step) => self.stepped(step),
-            Err(fault) => refused(self.heap, fault),
-        }
+        let answer = self.browser.press(shelf, name);
+        self.led(answer.map_err(refused))
     }
 
     /// Arrives by the outward ticket that lies here.
     pub fn arrive<H: Shelf>(&mut self, shelf: &H) -> Result<String, DeskError> {
-        let ticket = self.outward()?;
-        match self.browser.arrive(shelf, ticket) {
-            Ok(step) => Ok(self.stepped(step)?),
-            Err(fault) => Ok(failed(self.heap, fault)?),
-        }
+        let ticket = self.ticket()?;
+        let answer = self.browser.arrive(shelf, ticket);
+        Ok(self.led(answer.map_err(failed))?)
     }
 
     /// Follows by the landed ticket that lies here.
     pub fn follow<H: Shelf>(&mut self, shelf: &H) -> Result<String, DeskError> {
-        let ticket = self.landed()?;
-        match self.browser.follow(shelf, ticket) {
-            Ok(step) => Ok(self.stepped(step)?),
-            Err(fault) => Ok(failed(self.heap, fault)?),
-        }
+        let ticket = self.ticket()?;
+        let answer = self.browser.follow(shelf, ticket);
+        Ok(self.led(answer.map_err(failed))?)
     }
 
     /// Gives up by the outward ticket that lies here.
     pub fn give_up(&mut self) -> Result<String, DeskError> {
-        let ticket = self.outward()?;
+        let ticket = self.ticket()?;
         let r = self.browser.give_up(ticket);
         Ok(done(self.heap, r)?)
     }
@@ -151,41 +144,46 @@ impl<S: Store + Drop> Handheld<S> {
         done(self.heap, r)
     }
 
+    /// What a call answers that is lent a buffer of this size.
+    fn lend<T: BufferAnswer, F: FnOnce(&Browser<S>, &mut [u8]) -> Result<T, CallFault>>(
+        &self,
+        size: usize,
+        call: F,
+    ) -> Result<String, AllocError>
+        requires { F.IsAlwaysCallable call }
+    {
+        let mut buf = buffer(self.heap, size)?;
+        let r = call(&self.browser, buf.as_mut_slice());
+        written(self.heap, r, buf.as_slice())
+    }
+
     /// The target, asked by the outward ticket that lies here.
     pub fn target(&self, size: usize) -> Result<String, DeskError> {
-        let Pocket::Outward(ticket) = &self.pocket else {
-            return Err(DeskError::NoTicket);
-        };
-        let mut buf = buffer(self.heap, size)?;
-        let r = self.browser.target(ticket, buf.as_mut_slice());
-        Ok(written(self.heap, r, buf.as_slice())?)
+        match &self.pocket {
+            Pocket::Outward(ticket) => {
+                Ok(self.lend(size, |browser, buf| browser.target(ticket, buf))?)
+            }
+            Pocket::Empty | Pocket::Landed(_) => Err(DeskError::NoTicket),
+        }
     }
 
     /// The page of the current card.
     pub fn show<H: Shelf>(&self, shelf: &H, size: usize) -> Result<String, AllocError> {
-        let mut buf = buffer(self.heap, size)?;
-        let r = self.browser.show(shelf, buf.as_mut_slice());
-        page(self.heap, r, buf.as_slice())
+        self.lend(size, |browser, buf| browser.show(shelf, buf))
     }
 
     /// The host's text, filled.
     pub fn fill(&self, size: usize, text: &[u8]) -> Result<String, AllocError> {
-        let mut buf = buffer(self.heap, size)?;
-        let r = self.browser.fill(text, buf.as_mut_slice());
-        written(self.heap, r, buf.as_slice())
+        self.lend(size, |browser, buf| browser.fill(text, buf))
     }
 
     /// The value of a name.
     pub fn value(&self, size: usize, name: &[u8]) -> Result<String, AllocError> {
-        let mut buf = buffer(self.heap, size)?;
-        let r = self.browser.value(name, buf.as_mut_slice());
-        written(self.heap, r, buf.as_slice())
+        self.lend(size, |browser, buf| browser.value(name, buf))
     }
 
     /// The address of the current card.
     pub fn address(&self, size: usize) -> Result<String, AllocError> {
-        let mut buf = buffer(self.heap, size)?;
-        let r = self.browser.address(buf.as_mut_slice());
-        written(self.heap, r, buf.as_slice())
+        self.lend(size, |browser, buf| browser.address(buf))
     }
 }

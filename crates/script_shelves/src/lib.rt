@@ -2,16 +2,17 @@
 #![tactic(auto)]
 
 use address::Address;
-use decks::{BindingView, CardView, Kind, Shelf, TaskView};
+use decks::{BindingView, CardView, Shelf, TaskView};
 use file_tables::{FileTables, frame_refusal};
 use hex_text::bytes_of;
 use loaded::Loaded;
 use questions::ask;
-use records::RecordShelf;
+pub use records::RecordShelf;
 use script_texts::DeskError;
-use script_words::quoted;
-use shelf_file::FileShelf;
+use script_words::Quoted;
+pub use shelf_file::FileShelf;
 use std::alloc::{AllocError, Global};
+use std::collections::BTreeMap;
 use tables::{Cause, Tables};
 
 /// What a shelf lies in.
@@ -24,22 +25,13 @@ pub enum Held {
 
 const SHELF_USAGE: &str = "shelf NAME file|records HEX";
 
-fn kind_name(kind: Kind) -> &'static str {
-    match kind {
-        Kind::Noop => "noop",
-        Kind::Go => "go",
-        Kind::Prev => "prev",
-        Kind::Refresh => "refresh",
-    }
-}
-
 /// A task by its kind, its address text and how many assignments it has.
 fn task(heap: Global, task: &Option<TaskView<'_>>) -> Result<String, AllocError> {
     match task {
         None => format!(in heap; "none"),
         Some(task) => {
-            let kind = kind_name(task.kind);
-            let address = quoted(heap, task.address.bytes)?;
+            let kind = task.kind;
+            let address = Quoted(task.address.bytes);
             let sets = task.assignments.count;
             format!(in heap; "{kind} {address} with {sets} assignments")
         }
@@ -50,10 +42,10 @@ fn card(heap: Global, card: &Option<CardView<'_>>) -> Result<String, AllocError>
     match card {
         None => format!(in heap; "no card"),
         Some(card) => {
-            let id = quoted(heap, card.id.bytes)?;
+            let id = Quoted(card.id.bytes);
             let mark = if card.newcontext { " newcontext" } else { "" };
             let place = card.body.place;
-            let body = quoted(heap, card.body.bytes)?;
+            let body = Quoted(card.body.bytes);
             format!(in heap; "card {id}{mark}, body {body} at {place}")
         }
     }
@@ -62,10 +54,7 @@ fn card(heap: Global, card: &Option<CardView<'_>>) -> Result<String, AllocError>
 fn label(heap: Global, binding: &Option<BindingView<'_>>) -> Result<String, AllocError> {
     match binding {
         None => format!(in heap; "no binding"),
-        Some(binding) => {
-            let label = quoted(heap, binding.label.bytes)?;
-            format!(in heap; "binding labelled {label}")
-        }
+        Some(binding) => format!(in heap; "binding labelled {}", Quoted(binding.label.bytes)),
     }
 }
 
@@ -85,6 +74,28 @@ fn answer<S: Shelf>(
     let backward = task(heap, &found.backward)?;
     let label = label(heap, &found.binding)?;
     format!(in heap; "{card}; forward {forward}; backward {backward}; {label}")
+}
+
+/// Opens the shelf that lies in a `Held`, of whichever kind, and does the work before it. A shelf whose file was
+/// refused has no decks.
+#[macro_export]
+macro_rules! before_shelf {
+    ($held:expr, $shelf:ident => $work:expr) => {
+        match $held {
+            $crate::Held::File(bytes) => {
+                let $shelf = $crate::FileShelf::open(bytes.as_slice());
+                $work
+            }
+            $crate::Held::Records(Ok(records)) => {
+                let $shelf = $crate::RecordShelf::over(records.lend());
+                $work
+            }
+            $crate::Held::Records(Err(_)) => {
+                let $shelf = $crate::FileShelf::open(b"");
+                $work
+            }
+        }
+    };
 }
 
 impl Held {
@@ -115,56 +126,31 @@ impl Held {
     pub fn verdict(&self, heap: Global) -> Result<String, AllocError> {
         match self.refusal() {
             None => format!(in heap; "accepted"),
-            Some(cause) => {
-                let number = cause.number();
-                format!(in heap; "refused {number}")
-            }
+            Some(cause) => format!(in heap; "refused {}", cause.number()),
         }
     }
 
     /// `ask SHELF ADDRESS NAME`: the card that the address means, its enter tasks, and the active
     /// binding of the name.
     pub fn ask(&self, heap: Global, address: &[u8], name: &[u8]) -> Result<String, AllocError> {
-        let address = match Address::parse(address) {
-            Ok(address) => address,
-            Err(fault) => {
-                let number = fault.number();
-                return format!(in heap; "refused {number}");
-            }
-        };
-        match self {
-            Held::File(bytes) => answer(heap, &FileShelf::open(bytes.as_slice()), &address, name),
-            Held::Records(Ok(records)) => {
-                answer(heap, &RecordShelf::over(records.lend()), &address, name)
-            }
-            Held::Records(Err(_)) => format!(in heap; "no deck"),
+        match Address::parse(address) {
+            Ok(address) => before_shelf!(self, shelf => answer(heap, &shelf, &address, name)),
+            Err(fault) => format!(in heap; "refused {}", fault.number()),
         }
     }
 }
 
-/// A shelf that a script has made, with its name.
-#[derive(Drop)]
-struct NamedShelf {
-    name: Vec<u8>,
-    held: Held,
-}
-
 /// The bytes of a word of hexadecimal digits.
 fn hex_bytes(heap: Global, word: &[u8]) -> Result<Vec<u8>, DeskError> {
-    let Ok(text) = std::str::from_utf8(word) else {
-        return Err(DeskError::Usage(SHELF_USAGE));
-    };
-    match bytes_of(heap, text) {
-        Ok(bytes) => Ok(bytes),
-        Err(_) => Err(DeskError::Usage(SHELF_USAGE)),
-    }
+    let text = std::str::from_utf8(word).map_err(|_| DeskError::Usage(SHELF_USAGE))?;
+    bytes_of(heap, text).map_err(|_| DeskError::Usage(SHELF_USAGE))
 }
 
-/// The shelves of a script.
+/// The shelves of a script, by their names.
 #[derive(Drop)]
 pub struct Shelves {
     heap: Global,
-    all: Vec<NamedShelf>,
+    all: BTreeMap<Vec<u8>, Held>,
 }
 
 impl Shelves {
@@ -172,18 +158,13 @@ impl Shelves {
     pub fn new(heap: Global) -> Shelves {
         Shelves {
             heap,
-            all: Vec::new(heap),
+            all: BTreeMap::new(heap),
         }
     }
 
     /// What the shelf of the name lies in.
     pub fn find(&self, name: &[u8]) -> Option<&Held> {
-        for named in self.all.iter() {
-            if named.name.as_slice() == name {
-                return Some(&named.held);
-            }
-        }
-        None
+        self.all.get(name)
     }
 
     /// Makes a shelf of the bytes of a file, under a name, and says what became of it.
@@ -191,14 +172,13 @@ impl Shelves {
         let [name, kind, hex] = args else {
             return Err(DeskError::Usage(SHELF_USAGE));
         };
-        if self.find(name.as_slice()).is_some() {
+        if self.all.contains_key(name) {
             return Err(DeskError::UsedName);
         }
         let bytes = hex_bytes(self.heap, hex.as_slice())?;
         let held = Held::new(self.heap, kind.as_slice(), bytes)?;
         let verdict = held.verdict(self.heap)?;
-        let name = name.clone()?;
-        self.all.push(NamedShelf { name, held })?;
+        let _ = self.all.insert(name.clone()?, held)?;
         Ok(verdict)
     }
 

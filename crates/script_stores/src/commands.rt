@@ -1,6 +1,6 @@
 //! The commands on one store.
 use script_texts::{DeskError, fill, size_or_room};
-use script_words::quoted;
+use script_words::{Command, Quoted};
 use std::alloc::{AllocError, Global};
 use store::Store;
 use text::{Mode, Values, room_for_filling};
@@ -22,19 +22,14 @@ fn set<S: Store>(
 ) -> Result<String, AllocError> {
     match store.set(name, value) {
         Ok(()) => format!(in heap; "done"),
-        Err(refusal) => {
-            let number = refusal.number();
-            format!(in heap; "refused {number}")
-        }
+        Err(refusal) => format!(in heap; "refused {}", refusal.number()),
     }
 }
 
 /// The value of a name, with its length.
 fn value<S: Store>(heap: Global, store: &S, name: &[u8]) -> Result<String, AllocError> {
     let value = store.value(name);
-    let len = value.len();
-    let bytes = quoted(heap, value)?;
-    format!(in heap; "length {len}, value {bytes}")
+    format!(in heap; "length {}, value {}", value.len(), Quoted(value))
 }
 
 fn limits<S: Store>(heap: Global, store: &S) -> Result<String, AllocError> {
@@ -64,15 +59,14 @@ const FILL_USAGE: &str = "fill STORE plain|address SIZE TEXT";
 pub(crate) fn on_store<S: Store>(
     heap: Global,
     store: &mut S,
-    verb: &[u8],
-    args: &[Vec<u8>],
+    command: Command<'_>,
 ) -> Result<String, DeskError> {
-    match (verb, args) {
+    match (command.verb, command.args) {
         (b"set", [name, to]) => Ok(set(heap, store, name.as_slice(), to.as_slice())?),
         (b"set", _) => Err(DeskError::Usage("set STORE NAME VALUE")),
         (b"value", [name]) => Ok(value(heap, &*store, name.as_slice())?),
         (b"value", _) => Err(DeskError::Usage("value STORE NAME")),
-        (b"fill", _) => fill_from(heap, &*store, args),
+        (b"fill", args) => fill_from(heap, &*store, args),
         (b"clear", []) => {
             store.clear();
             Ok(format!(in heap; "done")?)

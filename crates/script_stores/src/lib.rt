@@ -4,9 +4,10 @@
 use commands::on_store;
 use packed::PackedRun;
 use script_texts::DeskError;
-use script_words::{buffer, size_of};
+use script_words::{Command, buffer, size_of};
 use slots::{Slot, SlotTable};
-use std::alloc::{AllocError, Global};
+use std::alloc::Global;
+use std::collections::BTreeMap;
 use store::Store;
 
 mod commands;
@@ -22,26 +23,27 @@ impl Memory {
     /// Memory of the kind and size, cleared before its first use.
     fn new(heap: Global, kind: &[u8], size: usize) -> Result<Memory, DeskError> {
         match kind {
-            b"packed" => Ok(Memory::Packed(buffer(heap, size)?)),
-            b"slots" => Ok(Memory::Slots(vec![in heap; Slot::empty(); size]?)),
+            b"packed" => {
+                let mut bytes = buffer(heap, size)?;
+                PackedRun::new(bytes.as_mut_slice()).clear();
+                Ok(Memory::Packed(bytes))
+            }
+            b"slots" => {
+                let mut slots = vec![in heap; Slot::empty(); size]?;
+                SlotTable::new(slots.as_mut_slice()).clear();
+                Ok(Memory::Slots(slots))
+            }
             _ => Err(DeskError::Usage(STORE_USAGE)),
         }
     }
 
-    fn clear(&mut self) {
-        match self {
-            Memory::Packed(bytes) => PackedRun::new(bytes.as_mut_slice()).clear(),
-            Memory::Slots(slots) => SlotTable::new(slots.as_mut_slice()).clear(),
-        }
-    }
-
-    fn work(&mut self, heap: Global, verb: &[u8], args: &[Vec<u8>]) -> Result<String, DeskError> {
+    fn work(&mut self, heap: Global, command: Command<'_>) -> Result<String, DeskError> {
         match self {
             Memory::Packed(bytes) => {
-                on_store(heap, &mut PackedRun::new(bytes.as_mut_slice()), verb, args)
+                on_store(heap, &mut PackedRun::new(bytes.as_mut_slice()), command)
             }
             Memory::Slots(slots) => {
-                on_store(heap, &mut SlotTable::new(slots.as_mut_slice()), verb, args)
+                on_store(heap, &mut SlotTable::new(slots.as_mut_slice()), command)
             }
         }
     }
@@ -49,18 +51,11 @@ impl Memory {
 
 const STORE_USAGE: &str = "store NAME packed SIZE, or store NAME slots COUNT";
 
-/// A store that a script has made, with its name.
-#[derive(Drop)]
-struct NamedStore {
-    name: Vec<u8>,
-    memory: Memory,
-}
-
-/// The stores of a script.
+/// The stores of a script, by their names.
 #[derive(Drop)]
 pub struct Stores {
     heap: Global,
-    all: Vec<NamedStore>,
+    all: BTreeMap<Vec<u8>, Memory>,
 }
 
 impl Stores {
@@ -68,17 +63,8 @@ impl Stores {
     pub fn new(heap: Global) -> Stores {
         Stores {
             heap,
-            all: Vec::new(heap),
+            all: BTreeMap::new(heap),
         }
-    }
-
-    fn has(&self, name: &[u8]) -> bool {
-        for named in self.all.iter() {
-            if named.name.as_slice() == name {
-                return true;
-            }
-        }
-        false
     }
 
     /// Makes a store of a kind and size, cleared, under a name.
@@ -89,27 +75,23 @@ impl Stores {
         let Some(size) = size_of(size.as_slice()) else {
             return Err(DeskError::Usage(STORE_USAGE));
         };
-        if self.has(name.as_slice()) {
+        if self.all.contains_key(name) {
             return Err(DeskError::UsedName);
         }
-        let mut memory = Memory::new(self.heap, kind.as_slice(), size)?;
-        memory.clear();
-        let name = name.clone()?;
-        self.all.push(NamedStore { name, memory })?;
+        let memory = Memory::new(self.heap, kind.as_slice(), size)?;
+        let _ = self.all.insert(name.clone()?, memory)?;
         Ok(format!(in self.heap; "done")?)
     }
 
     /// A command on the store of the name that comes first.
-    pub fn work(&mut self, verb: &[u8], args: &[Vec<u8>]) -> Result<String, DeskError> {
-        let [name, rest @ ..] = args else {
+    pub fn work(&mut self, command: Command<'_>) -> Result<String, DeskError> {
+        let [name, args @ ..] = command.args else {
             return Err(DeskError::Usage("a store's name comes first"));
         };
-        let heap = self.heap;
-        for named in self.all.iter_mut() {
-            if named.name.as_slice() == name.as_slice() {
-                return named.memory.work(heap, verb, rest);
-            }
+        let verb = command.verb;
+        match self.all.get_mut(name) {
+            Some(memory) => memory.work(self.heap, Command { verb, args }),
+            None => Err(DeskError::UnknownName),
         }
-        Err(DeskError::UnknownName)
     }
 }

@@ -1,7 +1,7 @@
 //! The commands on texts and addresses, and why a command is not worked.
 #![tactic(auto)]
 
-use script_words::{buffer, shown, size_of};
+use script_words::{Command, Lent, buffer, size_of};
 use std::alloc::{AllocError, Global};
 use text::{Mode, TextFault, Values, room_for_escaping};
 
@@ -21,20 +21,16 @@ pub fn size_or_room(word: &[u8], room: Result<usize, TextFault>) -> Option<usize
 
 /// The answer of a call that writes a text: the length or the refusal, and the buffer after.
 fn written(heap: Global, r: Result<usize, TextFault>, buf: &[u8]) -> Result<String, AllocError> {
+    let buffer = Lent {
+        buf,
+        written: r.unwrap_or(0),
+    };
     match r {
-        Ok(n) => {
-            let bytes = shown(heap, buf, n)?;
-            format!(in heap; "length {n}, buffer {bytes}")
-        }
+        Ok(len) => format!(in heap; "length {len}, buffer {buffer}"),
         Err(TextFault::Broken(place)) => {
-            let bytes = shown(heap, buf, 0)?;
-            format!(in heap; "refused 21 at place {place}, buffer {bytes}")
+            format!(in heap; "refused 21 at place {place}, buffer {buffer}")
         }
-        Err(fault) => {
-            let number = fault.number();
-            let bytes = shown(heap, buf, 0)?;
-            format!(in heap; "refused {number}, buffer {bytes}")
-        }
+        Err(fault) => format!(in heap; "refused {}, buffer {buffer}", fault.number()),
     }
 }
 
@@ -51,15 +47,15 @@ pub fn fill<V: Values>(
 }
 
 /// The commands `escape SIZE BYTES` and `unescape SIZE BYTES`.
-pub fn convert(heap: Global, verb: &[u8], args: &[Vec<u8>]) -> Result<String, DeskError> {
-    let [size, value] = args else {
+pub fn convert(heap: Global, command: Command<'_>) -> Result<String, DeskError> {
+    let [size, value] = command.args else {
         return Err(DeskError::Usage("escape|unescape SIZE BYTES"));
     };
     let Some(size) = size_or_room(size.as_slice(), room_for_escaping(value.as_slice())) else {
         return Err(DeskError::Usage("escape|unescape SIZE BYTES"));
     };
     let mut buf = buffer(heap, size)?;
-    let r = match verb {
+    let r = match command.verb {
         b"escape" => text::escape(value.as_slice(), buf.as_mut_slice()),
         b"unescape" => text::unescape(value.as_slice(), buf.as_mut_slice()),
         _ => return Err(DeskError::UnknownCommand),

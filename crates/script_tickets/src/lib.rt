@@ -1,6 +1,8 @@
 //! Where a script keeps a ticket between its lines.
 #![tactic(auto)]
 
+ghost use Rattle.std.specs.Prelude.{◌≡◌, MatchResult};
+ghost use Rattle.script_tickets.specs.declared.Pocket.TheVariants as pockets;
 ghost use Rattle.script_tickets.specs.Unlanded.{Unlanded};
 
 use browser::{Browser, LandedTicket, OutwardTicket, Step};
@@ -13,6 +15,50 @@ pub enum Pocket {
     Empty,
     Outward(OutwardTicket),
     Landed(LandedTicket),
+}
+
+impl From<OutwardTicket> for Pocket {
+    ghost from_gives = { λ ticket pocket. pocket ≡ pockets.Outward ticket };
+
+    fn from(ticket: OutwardTicket) -> Pocket {
+        Pocket::Outward(ticket)
+    }
+}
+
+impl From<LandedTicket> for Pocket {
+    ghost from_gives = { λ ticket pocket. pocket ≡ pockets.Landed ticket };
+
+    fn from(ticket: LandedTicket) -> Pocket {
+        Pocket::Landed(ticket)
+    }
+}
+
+/// A pocket without such a ticket comes back whole.
+impl TryFrom<Pocket> for OutwardTicket {
+    type Error = Pocket;
+
+    ghost try_from_gives = { λ pocket r. MatchResult r (λ ticket. pocket ≡ pockets.Outward ticket) (λ other. other ≡ pocket) };
+
+    fn try_from(pocket: Pocket) -> Result<OutwardTicket, Pocket> {
+        match pocket {
+            Pocket::Outward(ticket) => Ok(ticket),
+            other => Err(other),
+        }
+    }
+}
+
+/// A pocket without such a ticket comes back whole.
+impl TryFrom<Pocket> for LandedTicket {
+    type Error = Pocket;
+
+    ghost try_from_gives = { λ pocket r. MatchResult r (λ ticket. pocket ≡ pockets.Landed ticket) (λ other. other ≡ pocket) };
+
+    fn try_from(pocket: Pocket) -> Result<LandedTicket, Pocket> {
+        match pocket {
+            Pocket::Landed(ticket) => Ok(ticket),
+            another => Err(another),
+        }
+    }
 }
 
 /// Spends the ticket of a step that is no landing.

@@ -1,43 +1,32 @@
 //! The words of a script line, bytes as a script writes them, and the buffers that it lends.
 #![tactic(auto)]
 
-use std::alloc::{AllocError, AllocFailed, Global};
-use std::mem;
+use std::alloc::{AllocError, Global};
+use std::{fmt, mem};
+use thiserror::Error;
 
 /// Why a line cannot be read.
-#[derive(Drop)]
+#[derive(Debug, Drop, Error)]
 pub enum ScriptError {
     /// A quote that is not closed.
+    #[error("a quote is not closed")]
     OpenQuote,
     /// A backslash that begins none of `\xHH`, `\\` and `\"`.
+    #[error("a backslash begins none of \\xHH, \\\\ and \\\"")]
     BadEscape,
     /// Something that stands directly behind a closed quote.
+    #[error("no space behind a closed quote")]
     NoSpace,
     /// There is no memory for it.
-    Memory,
+    #[error("out of memory")]
+    Memory(#[from(alloc)] AllocError),
 }
 
-impl From<AllocError> for ScriptError {
-    fn from(_e: AllocError) -> ScriptError {
-        ScriptError::Memory
-    }
-}
-
-impl<T: Drop> From<AllocFailed<T>> for ScriptError {
-    fn from(_e: AllocFailed<T>) -> ScriptError {
-        ScriptError::Memory
-    }
-}
-
-impl ScriptError {
-    pub fn message(&self) -> &'static str {
-        match self {
-            ScriptError::OpenQuote => "a quote is not closed",
-            ScriptError::BadEscape => "a backslash begins none of \\xHH, \\\\ and \\\"",
-            ScriptError::NoSpace => "no space behind a closed quote",
-            ScriptError::Memory => "out of memory",
-        }
-    }
+/// A command of a script: its first word, and the words behind it.
+#[derive(Clone, Copy)]
+pub struct Command<'a> {
+    pub verb: &'a [u8],
+    pub args: &'a [Vec<u8>],
 }
 
 /// Where in a line the reader is.
@@ -49,10 +38,9 @@ enum Place {
     Closed,
 }
 
-/// How much of an escape the reader has seen.
+/// What the reader has seen of an escape that has begun.
 #[derive(Clone, Copy)]
 enum Escape {
-    No,
     Backslash,
     Marked,
     High(u8),
@@ -65,16 +53,12 @@ struct Reader {
     words: Vec<Vec<u8>>,
     word: Vec<u8>,
     place: Place,
-    escape: Escape,
+    escape: Option<Escape>,
 }
 
 fn hex_value(b: u8) -> Result<u8, ScriptError> {
-    match b {
-        b'0'..=b'9' => Ok(b - b'0'),
-        b'a'..=b'f' => Ok(b - b'a' + 10),
-        b'A'..=b'F' => Ok(b - b'A' + 10),
-        _ => Err(ScriptError::BadEscape),
-    }
+    let digit = char::from(b).to_digit(16).ok_or(ScriptError::BadEscape)?;
+    Ok(digit as u8)
 }
 
 impl Reader {
@@ -85,24 +69,20 @@ impl Reader {
     }
 
     /// One byte more of an escape that has begun.
-    fn in_escape(&mut self, b: u8) -> Result<(), ScriptError> {
-        let seen = self.escape;
-        self.escape = Escape::No;
+    fn in_escape(&mut self, seen: Escape, b: u8) -> Result<(), ScriptError> {
         match (seen, b) {
-            (Escape::Backslash, b'x') => self.escape = Escape::Marked,
+            (Escape::Backslash, b'x') => self.escape = Some(Escape::Marked),
             (Escape::Backslash, b'\\' | b'"') => self.word.push(b)?,
-            (Escape::Marked, _) => self.escape = Escape::High(hex_value(b)?),
-            (Escape::High(h), _) => self
-                .word
-                .push(h.wrapping_mul(16).wrapping_add(hex_value(b)?))?,
-            _ => return Err(ScriptError::BadEscape),
+            (Escape::Backslash, _) => return Err(ScriptError::BadEscape),
+            (Escape::Marked, _) => self.escape = Some(Escape::High(hex_value(b)?)),
+            (Escape::High(high), _) => self.word.push(high << 4 | hex_value(b)?)?,
         }
         Ok(())
     }
 
     fn take(&mut self, b: u8) -> Result<(), ScriptError> {
-        if !matches!(self.escape, Escape::No) {
-            return self.in_escape(b);
+        if let Some(seen) = self.escape.take() {
+            return self.in_escape(seen, b);
         }
         match (self.place, b) {
             (Place::Gap, b' ') => {}
@@ -122,7 +102,7 @@ impl Reader {
                     self.place = Place::Bare;
                 }
                 if b == b'\\' {
-                    self.escape = Escape::Backslash;
+                    self.escape = Some(Escape::Backslash);
                 } else {
                     self.word.push(b)?;
                 }
@@ -132,7 +112,7 @@ impl Reader {
     }
 
     fn finish(mut self) -> Result<Vec<Vec<u8>>, ScriptError> {
-        if !matches!(self.escape, Escape::No) {
+        if self.escape.is_some() {
             return Err(ScriptError::BadEscape);
         }
         match self.place {
@@ -152,7 +132,7 @@ pub fn words(heap: Global, line: &[u8]) -> Result<Vec<Vec<u8>>, ScriptError> {
         words: Vec::new(heap),
         word: Vec::new(heap),
         place: Place::Gap,
-        escape: Escape::No,
+        escape: None,
     };
     for b in line {
         reader.take(*b)?;
@@ -160,47 +140,31 @@ pub fn words(heap: Global, line: &[u8]) -> Result<Vec<Vec<u8>>, ScriptError> {
     reader.finish()
 }
 
-fn hex_digit(n: u8) -> char {
-    char::from(if n < 10 {
-        b'0'.wrapping_add(n)
-    } else {
-        b'A'.wrapping_sub(10).wrapping_add(n)
-    })
-}
+/// Bytes in quotes, as a script can read them again.
+#[derive(Clone, Copy)]
+pub struct Quoted<'a>(pub &'a [u8]);
 
-/// The bytes in quotes, as a script can read them again.
-pub fn quoted(heap: Global, bytes: &[u8]) -> Result<String, AllocError> {
-    let mut text = String::new(heap);
-    text.push('"')?;
-    for b in bytes {
-        match *b {
-            b'"' => text.push_str("\\\"")?,
-            b'\\' => text.push_str("\\\\")?,
-            0x20..=0x7E => text.push(char::from(*b))?,
-            _ => {
-                text.push_str("\\x")?;
-                text.push(hex_digit(*b / 16))?;
-                text.push(hex_digit(*b % 16))?;
+impl fmt::Display for Quoted<'_> {
+    fn fmt<W: fmt::Write>(&self, f: &mut fmt::Formatter<W>) -> fmt::Result {
+        f.write_str("\"")?;
+        for b in self.0 {
+            match *b {
+                b'"' => f.write_str("\\\"")?,
+                b'\\' => f.write_str("\\\\")?,
+                0x20..=0x7E => f.write_char(char::from(*b))?,
+                _ => write!(f, "\\x{b:02X}")?,
             }
         }
+        f.write_str("\"")
     }
-    text.push('"')?;
-    Ok(text)
 }
 
-/// A decimal number of a word.
+/// A decimal number of a word. A sign, which the library's parse would take, makes it none.
 pub fn number(word: &[u8]) -> Option<usize> {
-    if word.is_empty() {
+    if !word.iter().all(|b| b.is_ascii_digit()) {
         return None;
     }
-    let mut n: usize = 0;
-    for b in word {
-        match *b {
-            b'0'..=b'9' => n = n.checked_mul(10)?.checked_add(usize::from(*b - b'0'))?,
-            _ => return None,
-        }
-    }
-    Some(n)
+    std::str::from_utf8(word).ok()?.parse().ok()
 }
 
 /// The largest buffer or memory that a script may ask for.
@@ -208,16 +172,12 @@ const MOST_SIZE: usize = 100_000;
 
 /// A size in a script: a number up to 100,000.
 pub fn size_of(word: &[u8]) -> Option<usize> {
-    let n = number(word)?;
-    if n > MOST_SIZE { None } else { Some(n) }
+    number(word).filter(|n| *n <= MOST_SIZE)
 }
 
 /// A number that fits a byte.
 pub fn byte_of(word: &[u8]) -> Option<u8> {
-    match u8::try_from(number(word)?) {
-        Ok(n) => Some(n),
-        Err(_) => None,
-    }
+    u8::try_from(number(word)?).ok()
 }
 
 /// A buffer of the size, each byte a dot, so that what a call leaves alone can be seen.
@@ -225,15 +185,20 @@ pub fn buffer(heap: Global, size: usize) -> Result<Vec<u8>, AllocError> {
     vec![in heap; b'.'; size]
 }
 
-/// A buffer whose first `n` bytes a call wrote; the dots that it left alone are counted.
-pub fn shown(heap: Global, buf: &[u8], n: usize) -> Result<String, AllocError> {
-    let (front, rest) = buf.split_at(n.min(buf.len()));
-    for b in rest {
-        if *b != b'.' {
-            return quoted(heap, buf);
+/// A buffer whose first bytes a call wrote, that many; where all others are dots that it left alone, they are counted.
+#[derive(Clone, Copy)]
+pub struct Lent<'a> {
+    pub buf: &'a [u8],
+    pub written: usize,
+}
+
+impl fmt::Display for Lent<'_> {
+    fn fmt<W: fmt::Write>(&self, f: &mut fmt::Formatter<W>) -> fmt::Result {
+        let (front, rest) = self.buf.split_at(self.written.min(self.buf.len()));
+        if rest.iter().all(|b| *b == b'.') {
+            write!(f, "{} and {} dots", Quoted(front), rest.len())
+        } else {
+            write!(f, "{}", Quoted(self.buf))
         }
     }
-    let bytes = quoted(heap, front)?;
-    let dots = rest.len();
-    format!(in heap; "{bytes} and {dots} dots")
 }
