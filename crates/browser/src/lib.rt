@@ -85,7 +85,6 @@ impl<S: Store> Browser<S> {
         let Passed::Free = self.errand.decide(self.number, Need::Free)? else {
             unreachable()
         };
-        self.store.set(name, value)?;
-        Ok(())
+        Ok(self.store.set(name, value)?)
     }
 }

@@ -1,7 +1,6 @@
 //! Arriving at a card.
 ghost use Rattle.std.specs.Prelude.{◌≡◌, []};
 ghost use Rattle.address.specs.Meaning.{address_of};
-ghost use Rattle.decks.specs.Views.{Numbered};
 ghost use Rattle.history.specs.Kept.{kept};
 ghost use Rattle.places.specs.Places.{place_of};
 ghost use Rattle.machine.specs.Answer.{tells};
@@ -34,8 +33,8 @@ fn travel(history: &mut History, trip: &Trip)
 }
 
 /// Whether arriving there begins anew: by a go, at a newcontext card.
-fn begins_anew(way: Way, place: &Place) -> bool
-    ensures { (n : Numbered) → result ≡ begins_anew way (place_of n place.now).card }
+fn begins_anew<H: Shelf>(way: Way, place: &Place<H>) -> bool
+    ensures { result ≡ begins_anew way (place_of place.now).card }
 {
     match way {
         Way::Forward => place.card.newcontext,
@@ -45,8 +44,8 @@ fn begins_anew(way: Way, place: &Place) -> bool
 
 impl<S: Store> Browser<S> {
     /// Enters the card: the history moves, and a card with an enter task gives a landed ticket.
-    fn enter(&mut self, trip: &Trip, place: &Place) -> Step
-        ensures entered { (n : Numbered) → tells (state_of S.Store.meaning self.new) (step_told result) [] ≡ enter_with (state_of S.Store.meaning self.old) [] (trip_of trip.now) (place_of n place.now) (S.Store.meaning self.old.store) (kept self.old.history) }
+    fn enter<H: Shelf>(&mut self, trip: &Trip, place: &Place<H>) -> Step
+        ensures entered { tells (state_of S.Store.meaning self.new) (step_told result) [] ≡ enter_with (state_of S.Store.meaning self.old) [] (trip_of trip.now) (place_of place.now) (S.Store.meaning self.old.store) (kept self.old.history) }
         ensures store { self.new.store ≡ self.old.store }
         ensures unspent { UnspentStep result }
     {
@@ -64,8 +63,8 @@ impl<S: Store> Browser<S> {
     }
 
     /// Clears variables and history on a go to a newcontext card, else makes the assignments; then the card is entered.
-    fn arrive_at(&mut self, trip: &Trip, place: &Place) -> Result<Step, CallFault>
-        ensures arrived { (n : Numbered) → tells (state_of S.Store.meaning self.new) (step_answer result) [] ≡ arrive_at (S.Store.limits self.old.store) (state_of S.Store.meaning self.old) [] (trip_of trip.now) (place_of n place.now) }
+    fn arrive_at<H: Shelf>(&mut self, trip: &Trip, place: &Place<H>) -> Result<Step, CallFault>
+        ensures arrived { tells (state_of S.Store.meaning self.new) (step_answer result) [] ≡ arrive_at (S.Store.limits self.old.store) (state_of S.Store.meaning self.old) [] (trip_of trip.now) (place_of place.now) }
         ensures limits { S.Store.limits self.new.store ≡ S.Store.limits self.old.store }
         ensures unspent { StepUnspent result }
     {

@@ -28,7 +28,8 @@ fn copy_out(bytes: &[u8], buf: &mut [u8]) -> Result<usize, CallFault>
     if bytes.len() > buf.len() {
         return Err(CallFault::ShortBuffer);
     }
-    Ok(convert::copy_into(bytes, buf, 0))
+    buf[..bytes.len()].copy_from_slice(bytes);
+    Ok(bytes.len())
 }
 
 impl<S: Store> Browser<S> {
@@ -56,28 +57,21 @@ impl<S: Store> Browser<S> {
     pub fn address(&self, buf: &mut [u8]) -> Result<usize, CallFault>
         ensures { Worked (over S.Store.meaning S.Store.limits) self.now (lending address buf.old) self.now (length_answer result) (buf.new ∷ []) }
     {
-        match self.history.newest() {
-            Some(current) => copy_out(current.as_bytes(), buf),
-            None => Err(CallFault::NoCard),
-        }
+        let current = self.history.newest().ok_or(CallFault::NoCard)?;
+        copy_out(current.as_bytes(), buf)
     }
 
     /// Writes the page of the current card. Refused with 31, 34, 21 or, for the body alone, 35.
     pub fn show<H: Shelf>(&self, shelf: &H, buf: &mut [u8]) -> Result<Shown, CallFault>
         ensures { Worked (over S.Store.meaning S.Store.limits) self.now (drawing show (H.Shelf.decks shelf.now) buf.old) self.now (shown_answer result) (buf.new ∷ []) }
     {
-        let Some(current) = self.history.newest() else {
-            return Err(CallFault::NoCard);
-        };
-        let Some(place) = find_place(shelf, &current) else {
-            return Err(CallFault::DeckGone);
-        };
+        let current = self.history.newest().ok_or(CallFault::NoCard)?;
+        let place = find_place(shelf, &current).ok_or(CallFault::DeckGone)?;
         let asked = Asked {
             text: Which::Body,
             call: Caller::Show,
         };
-        let shown = placed(asked, write_page(&self.store, shelf, &place, buf))?;
-        Ok(shown)
+        Ok(placed(asked, write_page(&self.store, &place, buf))?)
     }
 
     /// Fills a text of the host's from the variables. Refused with 22, 21 or 35.
@@ -89,7 +83,6 @@ impl<S: Store> Browser<S> {
             call: Caller::Fill,
         };
         let values = Variables { store: &self.store };
-        let len = placed(asked, text::fill(text, &values, Mode::Plain, buf))?;
-        Ok(len)
+        Ok(placed(asked, text::fill(text, &values, Mode::Plain, buf))?)
     }
 }

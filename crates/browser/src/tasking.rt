@@ -1,14 +1,13 @@
 //! Press and follow: the calls that take a task at the current card.
 ghost use Rattle.std.specs.Prelude.{◌≡◌, []};
 ghost use Rattle.address.specs.Meaning.{address_of};
-ghost use Rattle.decks.specs.Allowances.{TaskAllowed};
-ghost use Rattle.decks.specs.Views.{task_of};
 ghost use Rattle.faults.specs.Told.{caller};
 ghost use Rattle.machine.specs.Answer.{tells};
 ghost use Rattle.machine.specs.Call.{press, follow};
 ghost use Rattle.machine.specs.Going.{settle};
 ghost use Rattle.machine.specs.Lives.{Worked};
 ghost use Rattle.machine.specs.Taking.{take_task};
+ghost use Rattle.places.specs.Places.{meant_task};
 ghost use Rattle.browser.specs.Meaning.{state_of, over};
 ghost use Rattle.browser.specs.Calls.{before};
 ghost use Rattle.browser.specs.Answers.{step_answer, StepUnspent};
@@ -16,35 +15,30 @@ ghost use Rattle.browser.specs.Answers.{step_answer, StepUnspent};
 use super::Browser;
 use crate::ticket::{LandedTicket, OutwardTicket, Step};
 use address::Address;
-use decks::{Shelf, TaskView};
+use decks::Shelf;
 use errands::{Errand, Need, Passed};
 use faults::{CallFault, Caller, placed};
-use places::{bound_task, entered_task, find_place};
+use places::{Task, find_place};
 use store::Store;
-use taking::{Taken, take};
+use taking::take;
 
 impl<S: Store> Browser<S> {
     /// Takes a task at the current address. Any errand that led to it ends, and a fault changes nothing else.
     fn work_task<H: Shelf>(
         &mut self,
-        shelf: &H,
         current: &Address,
-        task: &TaskView,
+        task: &Task<H>,
         by: Caller,
     ) -> Result<Step, CallFault>
-        requires { TaskAllowed (task_of (H.Shelf.parts shelf.now) task.now) }
-        ensures taken { tells (state_of S.Store.meaning self.new) (step_answer result) [] ≡ settle (caller by) (state_of S.Store.meaning self.old) [] (take_task (S.Store.limits self.old.store) (state_of S.Store.meaning self.old) (address_of current.now) (task_of (H.Shelf.parts shelf.now) task.now)) }
+        ensures taken { tells (state_of S.Store.meaning self.new) (step_answer result) [] ≡ settle (caller by) (state_of S.Store.meaning self.old) [] (take_task (S.Store.limits self.old.store) (state_of S.Store.meaning self.old) (address_of current.now) (meant_task task.now)) }
         ensures limits { S.Store.limits self.new.store ≡ S.Store.limits self.old.store }
         ensures unspent { StepUnspent result }
     {
         self.errand = Errand::Idle;
-        let taken = placed(
-            by,
-            take(&mut self.store, &self.history, shelf, current, task),
-        )?;
+        let taken = placed(by, take(&mut self.store, &self.history, current, task))?;
         match taken {
-            Taken::Stands => Ok(Step::Standing),
-            Taken::SetsOut(trip) => {
+            None => Ok(Step::Standing),
+            Some(trip) => {
                 self.errand = Errand::Out(trip);
                 Ok(Step::Outward(OutwardTicket::issue(self.number)))
             }
@@ -58,16 +52,10 @@ impl<S: Store> Browser<S> {
         ensures unspent { StepUnspent result }
     {
         let _ = self.errand.decide(self.number, Need::Free)?;
-        let Some(current) = self.history.newest() else {
-            return Err(CallFault::NoCard);
-        };
-        let Some(place) = find_place(shelf, &current) else {
-            return Err(CallFault::DeckGone);
-        };
-        let Some(task) = bound_task(shelf, &place, name) else {
-            return Err(CallFault::NoBinding);
-        };
-        self.work_task(shelf, &current, &task, Caller::Press)
+        let current = self.history.newest().ok_or(CallFault::NoCard)?;
+        let place = find_place(shelf, &current).ok_or(CallFault::DeckGone)?;
+        let task = place.bound_task(name).ok_or(CallFault::NoBinding)?;
+        self.work_task(&current, &task, Caller::Press)
     }
 
     /// Takes the enter task of the current card for the way of the landing, or stands where there is none.
@@ -84,15 +72,11 @@ impl<S: Store> Browser<S> {
             unreachable()
         };
         self.errand = Errand::Idle;
-        let Some(current) = self.history.newest() else {
-            return Err(CallFault::DeckGone);
-        };
-        let Some(place) = find_place(shelf, &current) else {
-            return Err(CallFault::DeckGone);
-        };
-        let Some(task) = entered_task(shelf, &place, way) else {
+        let current = self.history.newest().ok_or(CallFault::DeckGone)?;
+        let place = find_place(shelf, &current).ok_or(CallFault::DeckGone)?;
+        let Some(task) = place.entered_task(way) else {
             return Ok(Step::Standing);
         };
-        self.work_task(shelf, &current, &task, Caller::Follow)
+        self.work_task(&current, &task, Caller::Follow)
     }
 }

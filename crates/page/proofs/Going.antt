@@ -78,3 +78,10 @@ module _ (vs : Vars) (rest : List Binding) (b : Binding) (more : List Binding) (
       let f : fitting room (lines_of vs rest) ≡ [] = ap (λ x. fitting room (lines_of vs x)) r ∙ no_room vs b.label room b.task.kind more o in
       let x : length (fitting room (lines_of vs rest)) ≡ 0 = ap length f in
       (e ∙ sym (append-nil (take len buf)) ∙ ap (λ y. take len buf ++ together y) (sym f) ∙ g.bytes, omega (arith, g.labels))
+
+-- none is left: the page is whole
+pub ended : (vs : Vars) (rest : List Binding) (buf : Bytes) (len n : ℕ) (whole : Bytes) (count : ℕ) → rest ≡ [] → Going vs rest buf len n whole count → (take len buf ≡ whole) × (n ≡ count)
+ended vs rest buf len n whole count r g =
+    let f : fitting (length buf - len) (lines_of vs rest) ≡ [] = ap (λ x. fitting (length buf - len) (lines_of vs x)) r in
+    let x : length (fitting (length buf - len) (lines_of vs rest)) ≡ 0 = ap length f in
+    (sym (append-nil (take len buf)) ∙ ap (λ y. take len buf ++ together y) (sym f) ∙ g.bytes, omega (arith, g.labels))

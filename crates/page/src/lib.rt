@@ -7,13 +7,13 @@
 ghost use Rattle.std.specs.Prelude.{◌≡◌, ◌-◌, ◌≤◌, ◌++◌, length, take, replicate, if◌then◌else◌};
 ghost use Rattle.decks.specs.Allowances.{ShortText};
 ghost use Rattle.decks.specs.Model.{active};
-ghost use Rattle.decks.specs.Views.{binding_of, deck_of, card_of};
+ghost use Rattle.decks.specs.Views.{binding_of};
 ghost use Rattle.machine.specs.Page.{lines_of, fitting, together};
-ghost use Rattle.places.specs.Places.{place_of, PlaceAllowed};
+ghost use Rattle.places.specs.Places.{place_of};
 ghost use Rattle.page.specs.Lines.{whole_line, line_answer, lengthened, outcome_of, page_after};
 ghost use Rattle.page.specs.Shown.{page_answer, page_bytes};
 
-use decks::{BindingView, Kind, Shelf, next_active};
+use decks::{Active, BindingView, Kind, Shelf};
 use places::Place;
 use store::Store;
 use text::{Mode, TextFault, fill};
@@ -118,26 +118,22 @@ fn write_label<S: Store, H: Shelf>(
 /// that does not fit ends the page.
 fn write_labels<S: Store, H: Shelf>(
     store: &S,
-    shelf: &H,
-    place: &Place,
+    place: &Place<H>,
     buf: &mut [u8],
     len: &mut usize,
 ) -> usize
-    requires allowed { PlaceAllowed (place_of (H.Shelf.parts shelf.now) place.now) }
-    requires within { len.old ≤ length buf.old }
-    ensures labels { result ≡ length (fitting (length buf.old - len.old) (lines_of (S.Store.meaning store.now) (active (deck_of (H.Shelf.parts shelf.now) place.now.deck) (card_of (H.Shelf.parts shelf.now) place.now.card)))) }
-    ensures page { take len.new buf.new ≡ take len.old buf.old ++ together (fitting (length buf.old - len.old) (lines_of (S.Store.meaning store.now) (active (deck_of (H.Shelf.parts shelf.now) place.now.deck) (card_of (H.Shelf.parts shelf.now) place.now.card)))) }
+    requires { len.old ≤ length buf.old }
+    ensures labels { result ≡ length (fitting (length buf.old - len.old) (lines_of (S.Store.meaning store.now) (active (place_of place.now).deck (place_of place.now).card))) }
+    ensures page { take len.new buf.new ≡ take len.old buf.old ++ together (fitting (length buf.old - len.old) (lines_of (S.Store.meaning store.now) (active (place_of place.now).deck (place_of place.now).card))) }
     ensures within { len.new ≤ length buf.new }
 {
     let mut labels = 0;
-    let mut i = 0;
-    while let Some(walked) = next_active(shelf, &place.deck, &place.card, i) {
-        match write_label(store, shelf, &walked.binding, buf, len) {
+    for binding in Active::of(place.shelf, &place.deck, &place.card) {
+        match write_label(store, place.shelf, &binding, buf, len) {
             Outcome::Stands => labels += 1,
             Outcome::LeftOut => {}
             Outcome::NoRoom => return labels,
         }
-        i = walked.next;
     }
     labels
 }
@@ -156,17 +152,15 @@ fn blank(rest: &mut [u8])
 /// Refused, in this order and with `buf` as it was: a broken body, a buffer too short for the body.
 pub fn write_page<S: Store, H: Shelf>(
     store: &S,
-    shelf: &H,
-    place: &Place,
+    place: &Place<H>,
     buf: &mut [u8],
 ) -> Result<Shown, TextFault>
-    requires { PlaceAllowed (place_of (H.Shelf.parts shelf.now) place.now) }
-    ensures answer { result ≡ page_answer (S.Store.meaning store.now) (place_of (H.Shelf.parts shelf.now) place.now) (length buf.old) }
-    ensures bytes { buf.new ≡ page_bytes (S.Store.meaning store.now) (place_of (H.Shelf.parts shelf.now) place.now) buf.old }
+    ensures answer { result ≡ page_answer (S.Store.meaning store.now) (place_of place.now) (length buf.old) }
+    ensures bytes { buf.new ≡ page_bytes (S.Store.meaning store.now) (place_of place.now) buf.old }
 {
     let values = Variables { store };
     let mut len = fill(place.card.body.bytes, &values, Mode::Plain, buf)?;
-    let labels = write_labels(store, shelf, place, buf, &mut len);
+    let labels = write_labels(store, place, buf, &mut len);
     blank(&mut buf[len..]);
     Ok(Shown { len, labels })
 }

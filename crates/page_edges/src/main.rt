@@ -37,7 +37,7 @@ fn show<S: Store, H: Shelf>(
     let Some(place) = find_place(shelf, address) else {
         return Err(anyhow!("no such deck"));
     };
-    let front = match write_page(store, shelf, &place, buf) {
+    let front = match write_page(store, &place, buf) {
         Ok(shown) => {
             let len = shown.len;
             let labels = shown.labels;

@@ -1,1 +1,2 @@
+pub mod Allowed
 pub mod Places

@@ -1,19 +1,21 @@
--- What a place means, and the allowances that it keeps. Assumes nothing.
+-- What a place and a task of it mean. Assumes nothing.
 use Rattle.std.specs.Prelude.{Some, None, Option}
 use Rattle.decks.specs.Model.{Task, Binding}
-use Rattle.decks.specs.Views.{Numbered, deck_of, card_of}
-use Rattle.decks.specs.Allowances.{CardAllowed, DeckAllowed}
-use Rattle.machine.specs.Place as machine
-use Rattle.places.specs.declared.Place.{Place}
+use Rattle.decks.specs.Views.{task_of}
+use Rattle.decks.specs.declared.Shelf as shelf
+use Rattle.machine.specs.Place.{Place}
+use Rattle.places.specs.declared.kept.Place as kept
+use Rattle.places.specs.declared.kept.Task as kept_task
+use Rattle.places.specs.Allowed.{seen}
 
--- the deck and the card that the views mean
-abbrev pub place_of : Numbered → Place → machine.Place
-place_of n p = record { deck = deck_of n p.deck; card = card_of n p.card }
+module _ {S : Type 0} {h : shelf.Ghosts S} where
+  -- the deck and the card, as their shelf means them
+  abbrev pub place_of : kept.Place S h → Place
+  place_of p = seen (h.parts p.shelf.now) p.deck p.card
 
--- both keep every allowance
-pub record PlaceAllowed (p : machine.Place) : Type 0 where
-  pub deck : DeckAllowed p.deck
-  pub card : CardAllowed p.card
+  -- the task, as its shelf means it
+  abbrev pub meant_task : kept_task.Task S h → Task
+  meant_task t = task_of (h.parts t.shelf.now) t.view
 
 -- the task of a binding that was found
 abbrev pub task_bound : Option Binding → Option Task

@@ -1,11 +1,16 @@
 -- What a filled assignment comes to. Assumes nothing.
-use Rattle.std.proofs.Common.{◌≡◌, ℕ, ◌+◌, ◌-◌, ◌≤◌, Bool, true, false, cond, ◌&&◌, leb, length, take, drop, Some, None, Ok, Err, Option, Result, sym, refl, ap, ◌∙◌, subst, arith}
+use Rattle.std.proofs.Common.{◌≡◌, ℕ, ◌+◌, ◌≤◌, Bool, true, false, cond, ◌&&◌, leb, length, take, drop, Some, None, Ok, Err, Option, Result, MatchOption, MatchResult, sym, refl, ap, ◌∙◌, subst, arith}
 use lib.Seq.{sets}
+use Rattle.std.specs.Result.{result_ok}
 use Rattle.std.proofs.lemmas.List.Edits.{sets-eq}
 use Rattle.std.proofs.lemmas.Bool.{leb-true, le-leb}
 use Rattle.std.proofs.lemmas.List.{take_at}
 use Rattle.names.specs.Names.{Bytes, is_name, storable}
 use Rattle.store.specs.Vars.{Vars}
+use Rattle.store.specs.declared.Refusal.{Refusal}
+use Rattle.store.specs.declared.Refusal.TheVariants.{Unstorable}
+use Rattle.assignments.specs.declared.pair.Pair.{Pair}
+use Rattle.assignments.specs.Pairs.{name_of, value_of}
 use Rattle.text.specs.Fill.{broken_at}
 use Rattle.text.specs.declared.TextFault.{TextFault}
 use Rattle.decks.specs.declared.Kind.{Kind}
@@ -23,12 +28,10 @@ placed_ok c (Err y) x e = let z : ◌≡◌ {A = ℕ} 0 1 = cc in let w : ⊥ = 
 pub record Fitted (br : Option ℕ) (xs buf after : Bytes) (n : ℕ) : Type 0 where
   pub whole : br ≡ None
   pub room : length xs ≤ length buf
-  pub bytes : take (n - 0) after ≡ xs
+  pub bytes : take n after ≡ xs
 
-front : (xs buf : Bytes) (n : ℕ) → n ≡ length xs → length xs ≤ length buf → take (n - 0) (sets buf 0 xs) ≡ xs
-front xs buf n e h =
-    let k : n - 0 ≡ n = omega arith in
-    ap (λ z. take z (sets buf 0 xs)) k ∙ ap (take n) (sets-eq xs buf 0 (omega arith)) ∙ take_at xs (drop (0 + length xs) buf) n (sym e)
+front : (xs buf : Bytes) (n : ℕ) → n ≡ length xs → length xs ≤ length buf → take n (sets buf 0 xs) ≡ xs
+front xs buf n e h = ap (take n) (sets-eq xs buf 0 (omega arith)) ∙ take_at xs (drop (0 + length xs) buf) n (sym e)
 
 chosen : (b : Bool) (xs buf : Bytes) (n : ℕ) → leb (length xs) (length buf) ≡ b → cond b (Some (length xs)) None ≡ Some n → Fitted None xs buf (sets buf 0 xs) n
 chosen true xs buf n e q =
@@ -72,3 +75,10 @@ named_in n x y p e = ap is_name (sym p) ∙ named x y e
 
 pub unnamed_in : (n v x y : Bytes) → x ≡ n → y ≡ v → length n ≤ 16 → length v ≤ 64 → storable x y ≡ false → is_name n ≡ false
 unnamed_in n v x y p q l m e = unnamed n v l m (ap (λ z. storable z v) (sym p) ∙ ap (λ z. storable x z) (sym q) ∙ e)
+
+-- a pair, if its texts can be stored, was kept where its name result is a name
+pub paired : (n v x y : Bytes) (r : Result Pair Refusal) (o : Option Pair) → x ≡ n → y ≡ v → length n ≤ 16 → length v ≤ 64 → o ≡ result_ok r →
+    MatchResult r (λ p. (storable x y ≡ true) × (name_of p ≡ x) × (value_of p ≡ y)) (λ e. (storable x y ≡ false) × (e ≡ Unstorable)) →
+    MatchOption o (is_name n ≡ false) (λ p. (is_name n ≡ true) × (name_of p ≡ n) × (value_of p ≡ v))
+paired n v x y (Ok p) o e f l m q h = subst (λ z. MatchOption z (is_name n ≡ false) (λ p. (is_name n ≡ true) × (name_of p ≡ n) × (value_of p ≡ v))) (sym q) (named_in n x y e h.0, h.1 ∙ e, h.2 ∙ f)
+paired n v x y (Err z) o e f l m q h = subst (λ z. MatchOption z (is_name n ≡ false) (λ p. (is_name n ≡ true) × (name_of p ≡ n) × (value_of p ≡ v))) (sym q) (unnamed_in n v x y e f l m h.0)

@@ -1,5 +1,5 @@
 -- What taking a task comes to, in the words of the machine. Assumes nothing.
-use Rattle.std.specs.Prelude.{List, Ok, Err, Result}
+use Rattle.std.specs.Prelude.{List, Some, None, Ok, Err, Option, Result}
 use Rattle.names.specs.Names.{Bytes}
 use Rattle.store.specs.Vars.{Vars, look}
 use Rattle.text.specs.Fill.{filled, broken_at}
@@ -17,8 +17,6 @@ use Rattle.machine.specs.State.{Pairs, State, none}
 use Rattle.machine.specs.Answer.{the_address}
 use Rattle.machine.specs.Assigning.{broken_in}
 use Rattle.machine.specs.Taking as machine
-use Rattle.taking.specs.declared.Taken.{Taken}
-use Rattle.taking.specs.declared.Taken.TheVariants.{Stands, SetsOut}
 
 -- all of a state that a task looks at: the variables and the history
 abbrev pub at : Vars → List Bytes → State
@@ -43,8 +41,8 @@ abbrev pub made_stand : Result Unit TaskFault → Vars → machine.Taken
 made_stand (Ok _) vs = machine.stands vs
 made_stand (Err f) vs = machine.faulty (task_fault f)
 
--- any of them
-abbrev pub taken_as : Result Taken TaskFault → Vars → machine.Taken
-taken_as (Ok Stands) vs = machine.stands vs
-taken_as (Ok (SetsOut t)) vs = machine.sets_out (trip_of t)
+-- a trip, standing with the variables then, or the fault
+abbrev pub taken_as : Result (Option Trip) TaskFault → Vars → machine.Taken
+taken_as (Ok None) vs = machine.stands vs
+taken_as (Ok (Some t)) vs = machine.sets_out (trip_of t)
 taken_as (Err f) vs = machine.faulty (task_fault f)

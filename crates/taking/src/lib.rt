@@ -2,7 +2,7 @@
 //! What is taken makes the browser stand or sets it out; a fault changes nothing.
 #![tactic(auto)]
 
-ghost use Rattle.std.specs.Prelude.{◌≡◌, ℕ, ◌<◌, ◌≤◌, true, false, [], length, Some, None, MatchOption, MatchResult, OnErr};
+ghost use Rattle.std.specs.Prelude.{◌≡◌, ℕ, ◌<◌, ◌≤◌, true, false, [], length, Some, None, MatchOption, MatchResult, OnSome, OnErr};
 ghost use Rattle.names.specs.Names.{is_name};
 ghost use Rattle.store.specs.Vars.{look, size};
 ghost use Rattle.text.specs.Fill.{filled, broken_at};
@@ -11,33 +11,27 @@ ghost use Rattle.history.specs.Kept.{kept};
 ghost use Rattle.decks.specs.declared.Kind.TheVariants.{Go, Prev, Refresh};
 ghost use Rattle.assignments.specs.Pairs.{name_of, value_of};
 ghost use Rattle.assignments.specs.Listed.{listed};
-ghost use Rattle.decks.specs.Views.{assignment_of, task_of};
-ghost use Rattle.decks.specs.Allowances.{AssignmentAllowed, TaskAllowed};
+ghost use Rattle.decks.specs.Views.{assignment_of};
+ghost use Rattle.decks.specs.Allowances.{AssignmentAllowed};
 ghost use Rattle.faults.specs.Told.{task_fault};
 ghost use Rattle.machine.specs.Assigning.{plain, fault_of, joined};
 ghost use Rattle.machine.specs.State.{Pairs, Errand};
 ghost use Rattle.machine.specs.Taking.{fault_in, pairs_in, take_kind, take_task};
+ghost use Rattle.places.specs.Places.{meant_task};
 ghost use Rattle.taking.specs.Short.{short_answer, short_bytes};
 ghost use Rattle.taking.specs.Taking.{at, leads, destined, set_out, made_stand, taken_as};
 
 use address::Address;
 use assignments::{Assignments, Pair};
-use decks::{AssignmentView, Kind, Shelf, TaskView};
+use decks::{AssignmentView, Kind, Run, Shelf, Way};
 use errands::Trip;
 use faults::{Spot, TaskFault, Which, placed};
 use history::History;
-use machine::Way;
+use places::Task;
 use resolve::resolve;
 use store::Store;
 use text::{Mode, TextFault, fill};
 use variables::Variables;
-
-/// What taking a task comes to: the browser stands, or it sets out.
-#[derive(Clone, Copy)]
-pub enum Taken {
-    Stands,
-    SetsOut(Trip),
-}
 
 /// Fills a text into a buffer, and answers the length; nothing where the result does not fit.
 fn fill_short<S: Store>(
@@ -53,8 +47,8 @@ fn fill_short<S: Store>(
     let values = Variables { store };
     match fill(text, &values, mode, buf) {
         Ok(len) => Ok(Some(len)),
-        Err(TextFault::Broken(place)) => Err(TextFault::Broken(place)),
         Err(TextFault::TooLong | TextFault::ShortBuffer) => Ok(None),
+        Err(broken) => Err(broken),
     }
 }
 
@@ -70,29 +64,24 @@ pub fn filled_pair<S: Store>(
 {
     let mut name = [0; 16];
     let mut value = [0; 64];
-    let name_spot = Spot {
-        text: Which::Name(k),
-        kind,
-    };
-    let value_spot = Spot {
-        text: Which::Value(k),
-        kind,
-    };
     let name_len = placed(
-        name_spot,
+        Spot {
+            text: Which::Name(k),
+            kind,
+        },
         fill_short(store, given.name.bytes, Mode::Plain, &mut name),
     )?;
     let value_len = placed(
-        value_spot,
+        Spot {
+            text: Which::Value(k),
+            kind,
+        },
         fill_short(store, given.value.bytes, Mode::Plain, &mut value),
     )?;
     let (Some(name_len), Some(value_len)) = (name_len, value_len) else {
         return Err(TaskFault::TooLong);
     };
-    match Pair::new(&name[0..name_len], &value[0..value_len]) {
-        Ok(pair) => Ok(Some(pair)),
-        Err(_) => Ok(None),
-    }
+    Ok(Pair::new(&name[..name_len], &value[..value_len]).ok())
 }
 
 /// Adds the pair of assignment `k`, filled, to those before it; it is dropped where its name result is no name.
@@ -114,19 +103,14 @@ fn add_filled<S: Store>(
 }
 
 /// The pairs of all assignments of a task, filled against the same variables, or the first fault.
-fn gather<S: Store, H: Shelf>(
-    store: &S,
-    shelf: &H,
-    task: &TaskView,
-) -> Result<Assignments, TaskFault>
-    requires { TaskAllowed (task_of (H.Shelf.parts shelf.now) task.now) }
-    ensures { MatchResult result (λ a. (fault_in (S.Store.meaning store.now) (task_of (H.Shelf.parts shelf.now) task.now) ≡ None) × (listed a ≡ pairs_in (S.Store.meaning store.now) (task_of (H.Shelf.parts shelf.now) task.now))) (λ f. fault_in (S.Store.meaning store.now) (task_of (H.Shelf.parts shelf.now) task.now) ≡ Some (task_fault f)) }
+fn gather<S: Store, H: Shelf>(store: &S, task: &Task<H>) -> Result<Assignments, TaskFault>
+    ensures { MatchResult result (λ a. (fault_in (S.Store.meaning store.now) (meant_task task.now) ≡ None) × (listed a ≡ pairs_in (S.Store.meaning store.now) (meant_task task.now))) (λ f. fault_in (S.Store.meaning store.now) (meant_task task.now) ≡ Some (task_fault f)) }
 {
     let mut pairs = Assignments::none();
-    let first = task.assignments.first as usize;
-    for k in 0..task.assignments.count {
-        let given = shelf.assignment(first + k as usize);
-        add_filled(store, task.kind, k, &given, &mut pairs)?;
+    let Run { first, count } = task.view.assignments;
+    for k in 0..count {
+        let given = task.shelf.assignment(first as usize + k as usize);
+        add_filled(store, task.view.kind, k, &given, &mut pairs)?;
     }
     Ok(pairs)
 }
@@ -144,22 +128,19 @@ fn destination<S: Store>(store: &S, current: &Address, text: &[u8]) -> Result<Ad
     let Some(len) = placed(spot, fill_short(store, text, Mode::Address, &mut buf))? else {
         return Err(TaskFault::Unlawful);
     };
-    let target = resolve(current, &buf[0..len])?;
-    Ok(target)
+    Ok(resolve(current, &buf[..len])?)
 }
 
 /// A go sets out for its address.
 fn take_go<S: Store, H: Shelf>(
     store: &S,
-    shelf: &H,
     current: &Address,
-    task: &TaskView,
+    task: &Task<H>,
 ) -> Result<Trip, TaskFault>
-    requires { TaskAllowed (task_of (H.Shelf.parts shelf.now) task.now) }
-    ensures { set_out result ≡ take_kind (S.Store.limits store.now) (at (S.Store.meaning store.now) []) (address_of current.now) (task_of (H.Shelf.parts shelf.now) task.now) Go }
+    ensures { set_out result ≡ take_kind (S.Store.limits store.now) (at (S.Store.meaning store.now) []) (address_of current.now) (meant_task task.now) Go }
 {
-    let pairs = gather(store, shelf, task)?;
-    let target = destination(store, current, task.address.bytes)?;
+    let pairs = gather(store, task)?;
+    let target = destination(store, current, task.view.address.bytes)?;
     Ok(Trip {
         way: Way::Forward,
         target,
@@ -171,17 +152,15 @@ fn take_go<S: Store, H: Shelf>(
 fn take_prev<S: Store, H: Shelf>(
     store: &S,
     history: &History,
-    shelf: &H,
-    task: &TaskView,
-) -> Result<Taken, TaskFault>
-    requires { TaskAllowed (task_of (H.Shelf.parts shelf.now) task.now) }
-    ensures { taken_as result (S.Store.meaning store.now) ≡ take_kind (S.Store.limits store.now) (at (S.Store.meaning store.now) (kept history.now)) [] (task_of (H.Shelf.parts shelf.now) task.now) Prev }
+    task: &Task<H>,
+) -> Result<Option<Trip>, TaskFault>
+    ensures { taken_as result (S.Store.meaning store.now) ≡ take_kind (S.Store.limits store.now) (at (S.Store.meaning store.now) (kept history.now)) [] (meant_task task.now) Prev }
 {
     let Some(target) = history.second() else {
-        return Ok(Taken::Stands);
+        return Ok(None);
     };
-    let pairs = gather(store, shelf, task)?;
-    Ok(Taken::SetsOut(Trip {
+    let pairs = gather(store, task)?;
+    Ok(Some(Trip {
         way: Way::Backward,
         target,
         pairs,
@@ -189,46 +168,33 @@ fn take_prev<S: Store, H: Shelf>(
 }
 
 /// A refresh makes its assignments, if they fit, and stands.
-fn take_refresh<S: Store, H: Shelf>(
-    store: &mut S,
-    shelf: &H,
-    task: &TaskView,
-) -> Result<(), TaskFault>
-    requires { TaskAllowed (task_of (H.Shelf.parts shelf.now) task.now) }
-    ensures taken { made_stand result (S.Store.meaning store.new) ≡ take_kind (S.Store.limits store.old) (at (S.Store.meaning store.old) []) [] (task_of (H.Shelf.parts shelf.now) task.now) Refresh }
+fn take_refresh<S: Store, H: Shelf>(store: &mut S, task: &Task<H>) -> Result<(), TaskFault>
+    ensures taken { made_stand result (S.Store.meaning store.new) ≡ take_kind (S.Store.limits store.old) (at (S.Store.meaning store.old) []) [] (meant_task task.now) Refresh }
     ensures limits { S.Store.limits store.new ≡ S.Store.limits store.old }
     ensures refused { OnErr result (store.new ≡ store.old) }
 {
-    let pairs = gather(store, shelf, task)?;
-    match pairs.make(store) {
-        Ok(()) => Ok(()),
-        Err(_) => Err(TaskFault::NoRoom),
-    }
+    let pairs = gather(store, task)?;
+    pairs.make(store).map_err(|_| TaskFault::NoRoom)
 }
 
-/// Takes a task at the current address, after this history. Only a refresh that is made changes the store.
+/// Takes a task at the current address, after this history: the browser sets out on the trip, or it stands. Only a refresh that is made changes the store.
 pub fn take<S: Store, H: Shelf>(
     store: &mut S,
     history: &History,
-    shelf: &H,
     current: &Address,
-    task: &TaskView,
-) -> Result<Taken, TaskFault>
-    requires { TaskAllowed (task_of (H.Shelf.parts shelf.now) task.now) }
-    ensures taken { taken_as result (S.Store.meaning store.new) ≡ take_task (S.Store.limits store.old) (at (S.Store.meaning store.old) (kept history.now)) (address_of current.now) (task_of (H.Shelf.parts shelf.now) task.now) }
+    task: &Task<H>,
+) -> Result<Option<Trip>, TaskFault>
+    ensures taken { taken_as result (S.Store.meaning store.new) ≡ take_task (S.Store.limits store.old) (at (S.Store.meaning store.old) (kept history.now)) (address_of current.now) (meant_task task.now) }
     ensures limits { S.Store.limits store.new ≡ S.Store.limits store.old }
-    ensures kept { MatchResult result (λ t. elim t [ Taken.Stands ↦ Unit {0} | Taken.SetsOut _ ↦ store.new ≡ store.old ]) (λ _. store.new ≡ store.old) }
+    ensures kept { MatchResult result (λ t. OnSome t (store.new ≡ store.old)) (λ _. store.new ≡ store.old) }
 {
-    match task.kind {
-        Kind::Noop => Ok(Taken::Stands),
-        Kind::Go => {
-            let trip = take_go(store, shelf, current, task)?;
-            Ok(Taken::SetsOut(trip))
-        }
-        Kind::Prev => take_prev(store, history, shelf, task),
+    match task.view.kind {
+        Kind::Noop => Ok(None),
+        Kind::Go => Ok(Some(take_go(store, current, task)?)),
+        Kind::Prev => take_prev(store, history, task),
         Kind::Refresh => {
-            take_refresh(store, shelf, task)?;
-            Ok(Taken::Stands)
+            take_refresh(store, task)?;
+            Ok(None)
         }
     }
 }

@@ -7,7 +7,7 @@ use Rattle.page.proofs.write_page.Goals as goal
 pub returns : goal.returns
 returns g c =
     let vs = g.S.Store.meaning c.args.store.now in
-    let p = place_of (g.H.Shelf.parts c.args.shelf.now) c.args.place.now in
+    let p = place_of c.args.place.now in
     let buf = c.args.buf.now in
     let first = c.fill.new.buf in
     let last = c.write_labels-labels.new.buf in

@@ -6,11 +6,11 @@ use Rattle.taking.proofs.gather.Goals as goal
 
 pub add_filled-requires : goal.add_filled-requires
 add_filled-requires g c =
-    let f = (g.H.Shelf.parts c.args.shelf.now).assignments in
-    let r = c.args.task.now.assignments in
+    let f = (g.H.Shelf.parts c.args.task.now.shelf.now).assignments in
+    let r = c.args.task.now.view.assignments in
     record {
-      allowed = subst AssignmentAllowed (sym c.assignment-given.ensures.means) (allowed_at f r c.loop-k.k c.requires.assignments c.loop-k-test.true);
-      room = omega (arith, c.loop-k.invariant.few, c.loop-k-test.true, c.requires.few, counted f r);
+      allowed = subst AssignmentAllowed (sym c.assignment-given.ensures.means) (allowed_at f r c.loop-k.k c.args.task.now.allowed.assignments c.loop-k-test.true);
+      room = omega (arith, c.loop-k.invariant.few, c.loop-k-test.true, c.args.task.now.allowed.few, counted f r);
     }
 
 pub returns-in_err-add_filled : goal.returns-in_err-add_filled

@@ -5,4 +5,4 @@ use Rattle.taking.proofs.gather.Given as goal
 
 abbrev pub invariant-loop-k : goal.invariant-loop-k
 invariant-loop-k g l =
-    Gathering (g.S.Store.meaning l.store) l.task.kind (run (g.H.Shelf.parts l.shelf).assignments l.task.assignments) (listed l.pairs) (rest (g.H.Shelf.parts l.shelf).assignments l.task.assignments l.k) l.k
+    Gathering (g.S.Store.meaning l.store) l.task.view.kind (run (g.H.Shelf.parts l.task.shelf.now).assignments l.task.view.assignments) (listed l.pairs) (rest (g.H.Shelf.parts l.task.shelf.now).assignments l.task.view.assignments l.k) l.k

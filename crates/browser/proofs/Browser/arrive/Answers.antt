@@ -11,13 +11,12 @@ use Rattle.browser.proofs.Browser.arrive.Goals as goal
 pub returns : goal.returns
 returns g c =
     let b = c.args.self.now in
-    let n = g.H.Shelf.parts c.args.shelf.now in
     let o = c.in-Out.trip in
     let e : outward c.args.ticket.number b.number (errand_of b.errand) ≡ Some (trip_of o) =
     passed b.number b.errand c.args.ticket.number o (ap Ok (sym c.in-Out.is) ∙ c.in_ok-trip.ensures ∙ ap (λ t. decided b.number b.errand (needs.Out t)) c.spend.ensures) in
     record {
       worked = record {
-        as_defined = c.arrive_at.ensures.arrived n ∙ reaches (g.S.Store.limits b.store) (state_of g.S.Store.meaning b) (g.H.Shelf.decks c.args.shelf.now) c.args.ticket.number (trip_of o) (place_of n c.in-Some.place) e c.in-Some.ensures.found;
+        as_defined = c.arrive_at.ensures.arrived ∙ reaches (g.S.Store.limits b.store) (state_of g.S.Store.meaning b) (g.H.Shelf.decks c.args.shelf.now) c.args.ticket.number (trip_of o) (place_of c.in-Some.place) e c.in-Some.ensures.found;
         limits_stay = c.arrive_at.ensures.limits;
       };
       unspent = c.arrive_at.ensures.unspent;
