@@ -1,37 +1,91 @@
 -- Adding an assignment to a list, in place of an earlier one of its name. Assumes nothing.
-use Rattle.std.proofs.Common.{◌≡◌, ℕ, suc, ◌+◌, ◌-◌, ◌<◌, ◌≤◌, Bool, true, false, not, List, [], ◌∷◌, ◌++◌, length, take, drop, set, Decides, filter, sym, refl, ap, ◌∙◌, ⊎_elim, arith, length-append, length-drop, length-take}
+use Rattle.std.proofs.Common.{◌≡◌, ℕ, suc, ◌+◌, ◌-◌, ◌<◌, ◌≤◌, true, false, cond, not, List, [], ◌∷◌, ◌++◌, length, take, drop, set, Some, None, sym, refl, ap, ◌∙◌, ⊎_elim, arith, length-drop}
+use Rattle.std.specs.Prelude.{position, nat_lt}
 use Rattle.std.specs.Str.{bytes_eq}
-use Rattle.std.proofs.lemmas.Bool.Decides.{same_from_decides}
-use Rattle.std.proofs.lemmas.Slice.Eq.{bytes_eq-Decides}
-use Rattle.std.proofs.lemmas.List.{length-take-le, take-append-le, take_more_set}
-use Rattle.std.proofs.lemmas.Bool.{and_parts, and_from, not-true, not_from_false, cases_Bool}
+use Rattle.std.specs.List.{position_or_len, remove, copy_within}
+use Rattle.std.proofs.lemmas.Bool.Decides.{nat_tests}
+use Rattle.std.proofs.lemmas.List.{length-take-le, take-take, take_all, drop_all, drop-take, append-nil, take_more_set}
+use Rattle.std.proofs.lemmas.List.Edits.{take-paste}
+use Rattle.std.proofs.lemmas.Bool.{and_parts, and_from, not-true, not_from_false, cases_Bool, cases_lt, cond-true, cond-false}
 use Rattle.names.specs.Names.{Bytes}
 use Rattle.store.specs.Vars.{Vars, lacks, without, size}
-use Rattle.store.proofs.Order.{same_sym}
-use Rattle.store.proofs.Assigns.{lacks-without, lacks-without-other, size-without_le}
+use Rattle.store.proofs.Order.{same_sym, same-is}
+use Rattle.store.proofs.Assigns.{lacks-without, lacks-without-other, size-without_le, without-lacking}
 use Rattle.assignments.specs.declared.pair.Pair.{Pair}
 use Rattle.assignments.specs.Joint.{put_all, added}
-use Rattle.assignments.specs.Pairs.{name_of, value_of, pairs_of, distinct}
+use Rattle.assignments.specs.Pairs.{name_of, value_of, pairs_of, distinct, has_name}
 use Rattle.assignments.specs.Laws.{InTurn}
 use Rattle.assignments.proofs.Alls.{later-counts}
 use Rattle.assignments.proofs.Loops.{pairs_of-append, size-pairs_of}
 
--- the pair has another name
-abbrev pub other : Bytes → Pair → Bool
-other n p = not (bytes_eq n (name_of p))
+-- the pair at a later place is taken out behind the first
+cut_later : (x : Pair) (xs : List Pair) (k j : ℕ) → j ≡ suc k → pairs_of (remove (x ∷ xs) j) ≡ (name_of x, value_of x) ∷ pairs_of (remove xs k)
+cut_later x xs k j e = rw e refl
 
--- what a test for another name answers
-pub tested : (r b : Bool) (nm n : Bytes) (x : Pair) → Decides b (nm ≡ n) → r ≡ not b → nm ≡ name_of x → other n x ≡ r
-tested r b nm n x d e en =
-    ap (λ z. not (bytes_eq n z)) (sym en) ∙ (ap not (same_sym n nm ∙ sym (same_from_decides b (bytes_eq nm n) d (bytes_eq-Decides nm n))) ∙ sym e)
+-- where no name stands twice, the list without a name lacks one pair, the first of the name
+removed : (n : Bytes) (xs : List Pair) → distinct (pairs_of xs) ≡ true → pairs_of (remove xs (position_or_len (has_name n) xs)) ≡ without (pairs_of xs) n
+removed n [] d = refl
+removed n (x ∷ xs) d =
+    let ds = and_parts (lacks (name_of x) (pairs_of xs)) (distinct (pairs_of xs)) d in
+    let h = removed n xs ds.1 in
+    let k = position_or_len (has_name n) xs in
+    ⊎_elim
+    (λ s. rw s (sym (without-lacking (pairs_of xs) n (ap (λ z. lacks z (pairs_of xs)) (same-is n (name_of x) s) ∙ ds.0))))
+    (λ s. let e : position_or_len (has_name n) (x ∷ xs) ≡ suc k = rw s (let f : 1 + k ≡ suc k = omega arith in f) in
+    let w : (name_of x, value_of x) ∷ without (pairs_of xs) n ≡ without (pairs_of (x ∷ xs)) n = rw s refl in
+    cut_later x xs k (position_or_len (has_name n) (x ∷ xs)) e ∙ (ap (λ z. (name_of x, value_of x) ∷ z) h ∙ w)) (cases_Bool (bytes_eq n (name_of x)))
 
--- the pairs of other names mean the list without the name
-pub others-kept : (n : Bytes) (xs : List Pair) → pairs_of (filter (other n) xs) ≡ without (pairs_of xs) n
-others-kept n [] = refl
-others-kept n (x ∷ xs) = let h = others-kept n xs in
-    ⊎_elim (λ s. rw s h) (λ s. rw s (ap (λ z. (name_of x, value_of x) ∷ z) h)) (cases_Bool (bytes_eq n (name_of x)))
+-- the pairs behind one are moved over it
+moved : (xs : List Pair) (c i : ℕ) → i < c → c ≤ length xs → take (c - 1) (copy_within xs (i + 1) c i) ≡ remove (take c xs) i
+moved xs c i l h =
+    let k = c - (i + 1) in
+    let e : c - 1 ≡ i + k = omega arith in
+    let f : c ≡ i + 1 + k = omega arith in
+    let o : i + 1 ≡ suc i = omega arith in
+    let d : drop (i + 1) (take c xs) ≡ take k (drop (i + 1) xs) = ap (λ z. drop (i + 1) (take z xs)) f ∙ drop-take (i + 1) k xs in
+    ap (λ z. take z (copy_within xs (i + 1) c i)) e ∙ (take-paste xs i (drop (i + 1) xs) k (omega arith) (omega (arith, length-drop (i + 1) xs)) ∙
+    (ap (λ z. take i xs ++ z) (sym d) ∙ (ap (λ z. z ++ drop (i + 1) (take c xs)) (sym (take-take i c xs (omega arith))) ∙ ap (λ z. take i (take c xs) ++ drop z (take c xs)) o)))
 
-distinct_without : (ps : Vars) (n : Bytes) → distinct ps ≡ true → distinct (without ps n) ≡ true
+placed : (a b i : ℕ) → Some i ≡ cond (nat_lt a b) (Some a) None → (i ≡ a) × (a < b)
+placed a b i e =
+    ⊎_elim
+    (λ l. let t : nat_lt a b ≡ true = grind (arith, nat_tests) in
+    let s : Some i ≡ Some a = e ∙ cond-true (nat_lt a b) (Some a) None t in
+    (cc, l))
+    (λ l. let f : nat_lt a b ≡ false = grind (arith, nat_tests) in
+    let s : Some i ≡ None = e ∙ cond-false (nat_lt a b) (Some a) None f in
+    let z : ◌≡◌ {A = ℕ} 0 1 = cc in
+    absurd (omega arith)) (cases_lt a b)
+
+unplaced : (a b : ℕ) → None ≡ cond (nat_lt a b) (Some a) None → b ≤ a
+unplaced a b e =
+    ⊎_elim
+    (λ l. let t : nat_lt a b ≡ true = grind (arith, nat_tests) in
+    let s : None ≡ Some a = e ∙ cond-true (nat_lt a b) (Some a) None t in
+    let z : ◌≡◌ {A = ℕ} 0 1 = cc in
+    absurd (omega arith))
+    (λ l. l) (cases_lt a b)
+
+pub within_list : (n : Bytes) (xs : List Pair) (c i : ℕ) → Some i ≡ position (has_name n) (take c xs) → c ≤ length xs → i < c
+within_list n xs c i e h =
+    let s = placed (position_or_len (has_name n) (take c xs)) (length (take c xs)) i e in
+    omega (arith, s.0, s.1, length-take-le c xs h)
+
+-- the list after the pair at the place of a name was taken out of it
+pub taken : (n : Bytes) (xs zs : List Pair) (c i : ℕ) → c ≤ length xs → distinct (pairs_of (take c xs)) ≡ true → Some i ≡ position (has_name n) (take c xs) → zs ≡ copy_within xs (i + 1) c i → pairs_of (take (c - 1) zs) ≡ without (pairs_of (take c xs)) n
+taken n xs zs c i h d e z =
+    let p = placed (position_or_len (has_name n) (take c xs)) (length (take c xs)) i e in
+    ap (λ y. pairs_of (take (c - 1) y)) z ∙ (ap pairs_of (moved xs c i (within_list n xs c i e h) h ∙ ap (remove (take c xs)) p.0) ∙ removed n (take c xs) d)
+
+-- a name without a place is not in the list
+pub not_taken : (n : Bytes) (xs : List Pair) → distinct (pairs_of xs) ≡ true → None ≡ position (has_name n) xs → pairs_of xs ≡ without (pairs_of xs) n
+not_taken n xs d e =
+    let k = position_or_len (has_name n) xs in
+    let l : length xs ≤ k = unplaced k (length xs) e in
+    let r : remove xs k ≡ xs = ap (λ z. z ++ drop (suc k) xs) (take_all k xs l) ∙ (ap (λ z. xs ++ z) (drop_all (suc k) xs (omega arith)) ∙ append-nil xs) in
+    sym (ap pairs_of r) ∙ removed n xs d
+
+pub distinct_without : (ps : Vars) (n : Bytes) → distinct ps ≡ true → distinct (without ps n) ≡ true
 distinct_without [] n d = refl
 distinct_without (p ∷ ps) n d =
     let ds = and_parts (lacks p.0 ps) (distinct ps) d in
@@ -71,41 +125,23 @@ pub in_turn : InTurn
 in_turn m ps [] o = refl
 in_turn m ps (q ∷ qs) o = in_turn m (added ps q.0 q.1) qs o ∙ ap (λ z. put_all z qs) (later-counts ps m q.0 q.1 o)
 
--- the first r of ys are the pairs of other names of the first n of xs
-pub record Sifted (xs ys : List Pair) (n r : ℕ) (nm : Bytes) : Type 0 where
-  pub few : r ≤ length (take (n - 0) xs)
-  pub long : length ys ≡ length (take (n - 0) xs)
-  pub others : pairs_of (take r ys) ≡ without (pairs_of (take (n - 0) xs)) nm
-
-sifted_from : (xs ys : List Pair) (n r : ℕ) (nm : Bytes) (x : Pair) → Sifted xs ys n r nm → nm ≡ name_of x → pairs_of (take r ys) ≡ without (pairs_of (take n xs)) (name_of x)
-sifted_from xs ys n r nm x s en =
-    let z : n - 0 ≡ n = omega arith in
-    s.others ∙ (ap (without (pairs_of (take (n - 0) xs))) en ∙ ap (λ k. without (pairs_of (take k xs)) (name_of x)) z)
-
--- there is a place for one more
-pub placed : (xs ys : List Pair) (n r : ℕ) (nm : Bytes) (x : Pair) → Sifted xs ys n r nm → nm ≡ name_of x → size (added (pairs_of (take n xs)) (name_of x) (value_of x)) ≤ 16 → r < 16
-placed xs ys n r nm x s en h =
-    let a = size-added-is (pairs_of (take n xs)) (name_of x) (value_of x) in
-    let b = ap size (sifted_from xs ys n r nm x s en) in
-    let k = size-pairs_of (take r ys) in
-    let l = length-take-le r ys (omega (arith, s.few, s.long)) in
-    omega arith
-
--- after the others were kept and the pair was put behind them
+-- after the name was taken out and the pair was put behind the others
 pub record Extended (xs zs : List Pair) (n r : ℕ) (x : Pair) : Type 0 where
   pub spot : r < 16
   pub inside : r < length zs
   pub list : pairs_of (take (r + 1) (set zs r x)) ≡ added (pairs_of (take n xs)) (name_of x) (value_of x)
 
-pub extended : (xs ys : List Pair) (n r : ℕ) (nm : Bytes) (x : Pair) → Sifted xs ys n r nm → nm ≡ name_of x → length xs ≡ 16 → n ≤ 16 → size (added (pairs_of (take n xs)) (name_of x) (value_of x)) ≤ 16 → Extended xs (ys ++ drop (n - 0) xs) n r x
-extended xs ys n r nm x s en l16 hn h =
-    let post = drop (n - 0) xs in
-    let p = placed xs ys n r nm x s en h in
-    let q : r < length (ys ++ post) = omega (arith, s.few, s.long, length-append ys post, length-take (n - 0) xs, length-drop (n - 0) xs) in
+pub extended : (xs zs : List Pair) (n r : ℕ) (nm : Bytes) (x : Pair) → pairs_of (take r zs) ≡ without (pairs_of (take n xs)) nm → nm ≡ name_of x → length zs ≡ 16 → r ≤ 16 → size (added (pairs_of (take n xs)) (name_of x) (value_of x)) ≤ 16 → Extended xs zs n r x
+extended xs zs n r nm x e en l h k =
+    let s : pairs_of (take r zs) ≡ without (pairs_of (take n xs)) (name_of x) = e ∙ ap (without (pairs_of (take n xs))) en in
+    let a = size-added-is (pairs_of (take n xs)) (name_of x) (value_of x) in
+    let b = ap size s in
+    let t = size-pairs_of (take r zs) in
+    let u = length-take-le r zs (omega arith) in
+    let p : r < 16 = omega arith in
+    let q : r < length zs = omega arith in
     record {
       spot = p;
       inside = q;
-      list = ap pairs_of (take_more_set (ys ++ post) r x q) ∙ (pairs_of-append (take r (ys ++ post)) (x ∷ []) ∙
-          (ap (λ z. pairs_of z ++ ((name_of x, value_of x) ∷ [])) (take-append-le r ys post (omega (arith, s.few, s.long))) ∙
-          ap (λ z. z ++ ((name_of x, value_of x) ∷ [])) (sifted_from xs ys n r nm x s en)));
+      list = ap pairs_of (take_more_set zs r x q) ∙ (pairs_of-append (take r zs) (x ∷ []) ∙ ap (λ z. z ++ ((name_of x, value_of x) ∷ [])) s);
     }

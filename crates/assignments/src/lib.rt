@@ -1,13 +1,13 @@
 //! Assignments that are made together, over any store: all of them or none.
 #![tactic(auto)]
 
-ghost use Rattle.std.specs.Prelude.{◌≡◌, ◌≤◌, true, false, [], length, take, Ok, Err, MatchResult};
+ghost use Rattle.std.specs.Prelude.{◌≡◌, ◌≤◌, true, false, [], length, take, position, Ok, Err, MatchResult};
 ghost use Rattle.names.specs.Names.{storable};
 ghost use Rattle.store.specs.declared.Refusal.TheVariants.{Unstorable};
 ghost use Rattle.store.specs.Limits.{within};
 ghost use Rattle.assignments.specs.Joint.{put_all, added, jointly};
 ghost use Rattle.assignments.specs.Unsetting.{without_all, lacks_all};
-ghost use Rattle.assignments.specs.Pairs.{name_of, value_of, pairs_of};
+ghost use Rattle.assignments.specs.Pairs.{name_of, value_of, pairs_of, has_name};
 ghost use Rattle.assignments.specs.Listed.{listed};
 ghost use Rattle.assignments.specs.Laws.{InTurn};
 ghost use Rattle.store.specs.Vars.{size, without};
@@ -79,9 +79,29 @@ impl Assignments {
         ensures list { listed self.new ≡ added (listed self.old) (name_of pair) (value_of pair) }
         ensures in_turn { InTurn }
     {
-        let kept = keep_others(&mut self.list[0..self.count], pair.name());
-        self.list[kept] = pair;
-        self.count = kept + 1;
+        self.remove(pair.name());
+        self.list[self.count] = pair;
+        self.count += 1;
+    }
+
+    /// Takes the assignment of a name out of the list, if there is one; no name stands twice.
+    fn remove(&mut self, name: &[u8])
+        ensures list { listed self.new ≡ without (listed self.old) name.now }
+        ensures whole { length self.new.list ≡ 16 }
+    {
+        if let Some(i) = self.place(name) {
+            self.list.copy_within(i + 1..self.count, i);
+            self.count -= 1;
+        }
+    }
+
+    /// The place of a name in the list.
+    fn place(&self, name: &[u8]) -> Option<usize>
+        ensures { result ≡ position (has_name name.now) (take self.now.count self.now.list) }
+    {
+        self.list[..self.count]
+            .iter()
+            .position(|pair| name == pair.name())
     }
 
     /// The assignments in the list, in the order in which they came.
@@ -146,21 +166,4 @@ impl Assignments {
             let _ = store.set(p.name(), p.value());
         }
     }
-}
-
-/// Moves the pairs of other names to the front, in their order, and answers how many they are.
-fn keep_others(pairs: &mut [Pair], name: &[u8]) -> usize
-    ensures few { result ≤ length pairs.old }
-    ensures others { pairs_of (take result pairs.new) ≡ without (pairs_of pairs.old) name.now }
-{
-    let mut others = 0;
-    // By index, since pairs move within the slice that is read.
-    for i in 0..pairs.len() {
-        let pair = pairs[i];
-        if pair.name() != name {
-            pairs[others] = pair;
-            others += 1;
-        }
-    }
-    others
 }

@@ -3,7 +3,7 @@ use Rattle.std.specs.Prelude.{◌≡◌, ℕ, ◌<◌, true, false, List, [], le
 use Rattle.names.specs.Names.{Bytes}
 use Rattle.store.specs.Vars.{assign, size}
 use Rattle.slot_rows.specs.declared.Slot.{Slot}
-use Rattle.slot_rows.specs.Slots.{value_of, full, holds_name}
+use Rattle.slot_rows.specs.Slots.{value_of, holds_name}
 use Rattle.slot_rows.specs.Rows.{reads, absent, counts}
 
 -- what is read past the last slot

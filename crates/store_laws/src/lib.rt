@@ -11,13 +11,14 @@ mod operation;
 
 pub use operation::Operation;
 
-/// Asks both stores the same: a function of its own, since the laws are proved of its one answer.
-fn ask_both<A: Store, B: Store>(a: &mut A, b: &mut B, operation: Operation<'_>) -> bool
+/// Asks both stores the same, and answers whether they answered alike.
+///
+/// Two stores that mean the same under the same limits answer alike, and mean the same after it.
+pub fn work_both<A: Store, B: Store>(a: &mut A, b: &mut B, operation: Operation<'_>) -> bool
     ensures answer { result ≡ answers_alike (A.Store.limits a.old) (A.Store.meaning a.old) (B.Store.limits b.old) (B.Store.meaning b.old) operation.entry }
-    ensures first_limits { A.Store.limits a.new ≡ A.Store.limits a.old }
-    ensures first { A.Store.meaning a.new ≡ after (A.Store.limits a.old) (A.Store.meaning a.old) operation.entry }
-    ensures second_limits { B.Store.limits b.new ≡ B.Store.limits b.old }
-    ensures second { B.Store.meaning b.new ≡ after (B.Store.limits b.old) (B.Store.meaning b.old) operation.entry }
+    ensures first { Worked (A.Store.limits a.old) (A.Store.meaning a.old) (operation.entry ∷ []) (A.Store.limits a.new) (A.Store.meaning a.new) }
+    ensures second { Worked (B.Store.limits b.old) (B.Store.meaning b.old) (operation.entry ∷ []) (B.Store.limits b.new) (B.Store.meaning b.new) }
+    ensures law { Alike (A.Store.limits a.old) (A.Store.meaning a.old) (B.Store.limits b.old) (B.Store.meaning b.old) → (result ≡ true) × Alike (A.Store.limits a.new) (A.Store.meaning a.new) (B.Store.limits b.new) (B.Store.meaning b.new) }
 {
     match operation {
         Operation::Set(name, value) => a.set(name, value) == b.set(name, value),
@@ -32,18 +33,6 @@ fn ask_both<A: Store, B: Store>(a: &mut A, b: &mut B, operation: Operation<'_>) 
         Operation::MostNames => a.most_names() == b.most_names(),
         Operation::MostBytes => a.most_bytes() == b.most_bytes(),
     }
-}
-
-/// Asks both stores the same, and answers whether they answered alike.
-///
-/// Two stores that mean the same under the same limits answer alike, and mean the same after it.
-pub fn work_both<A: Store, B: Store>(a: &mut A, b: &mut B, operation: Operation<'_>) -> bool
-    ensures answer { result ≡ answers_alike (A.Store.limits a.old) (A.Store.meaning a.old) (B.Store.limits b.old) (B.Store.meaning b.old) operation.entry }
-    ensures first { Worked (A.Store.limits a.old) (A.Store.meaning a.old) (operation.entry ∷ []) (A.Store.limits a.new) (A.Store.meaning a.new) }
-    ensures second { Worked (B.Store.limits b.old) (B.Store.meaning b.old) (operation.entry ∷ []) (B.Store.limits b.new) (B.Store.meaning b.new) }
-    ensures law { Alike (A.Store.limits a.old) (A.Store.meaning a.old) (B.Store.limits b.old) (B.Store.meaning b.old) → (result ≡ true) × Alike (A.Store.limits a.new) (A.Store.meaning a.new) (B.Store.limits b.new) (B.Store.meaning b.new) }
-{
-    ask_both(a, b, operation)
 }
 
 /// Asks both stores the same, one operation after another, and answers whether they answered all alike.

@@ -1,7 +1,7 @@
 use Rattle.std.proofs.Common.{take, get_or, sym, ◌∙◌}
 use Rattle.slot_rows.specs.Slots.{freed}
 use Rattle.slot_rows.specs.Places.{no_slot}
-use Rattle.slot_rows.proofs.Memory.{change-more, keep-more, over_all, changed_to, freed-held, freed-other}
+use Rattle.slot_rows.proofs.Memory.{change-more, over_all, changed_to, freed-held, freed-other}
 use Rattle.slot_rows.proofs.free.Goals as goal
 use Rattle.slot_rows.proofs.free.Goals.{then-holds, else-holds}
 
