@@ -1,5 +1,5 @@
 -- What an iterator gives that walks over the places of a list. Assumes nothing.
-use Rattle.std.proofs.Common.{◌≡◌, ℕ, zero, suc, ◌+◌, Bool, true, false, cond, List, [], ◌∷◌, take, drop, IfSome, Some, None, Option, MatchOption, sym, refl, ap, ◌∙◌, subst, add-one, arith}
+use Rattle.std.proofs.Common.{◌≡◌, ℕ, zero, suc, ◌+◌, ◌<◌, Bool, true, false, cond, List, [], ◌∷◌, take, drop, IfSome, Some, None, Option, MatchOption, sym, refl, ap, ◌∙◌, subst, add-one, arith}
 use Rattle.std.specs.List.{slice_get, FoldsTo}
 use Rattle.std.specs.Fn.{CalledAt}
 use Rattle.std.specs.Iterator.{FindsItem, YieldsThen, AlwaysYields}
@@ -37,6 +37,13 @@ module _ {X : Type 0} (p : X → Bool) where
   first-over (y ∷ ys) (suc k) e n =
       let h = parted (p y) y (first p (take k ys)) n in
       cond-false (p y) (Some y) (first p ys) h.0 ∙ first-over ys k e h.1
+
+  -- nothing below place k passes
+  pub none-below : (all : List X) (k i : ℕ) (x : X) → first p (take k all) ≡ None → i < k → Some x ≡ slice_get all i → p x ≡ false
+  none-below [] k i x n l e = absurd (let z : ◌≡◌ {A = ℕ} 0 1 = cc in omega arith)
+  none-below (y ∷ ys) zero i x n l e = absurd (omega arith)
+  none-below (y ∷ ys) (suc k) zero x n l e = let h : x ≡ y = cc in ap p h ∙ (parted (p y) y (first p (take k ys)) n).0
+  none-below (y ∷ ys) (suc k) (suc i) x n l e = none-below ys k i x (parted (p y) y (first p (take k ys)) n).1 (omega arith) e
 
 -- an iterator that stands in the state `at k` at place k of a list, whose elements are what its items mean
 pub record WalksOver {S A X : Type 0} (steps : S → Option A → S → Type 0) (mean : A → X) (all : List X) (at : ℕ → S) : Type 0 where

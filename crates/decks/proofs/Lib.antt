@@ -3,3 +3,4 @@ pub mod Walking
 pub mod Kept
 pub mod Finding
 pub mod Offering
+pub mod Carding

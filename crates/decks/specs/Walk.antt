@@ -1,16 +1,18 @@
--- The steps of the walks over decks, over offered bindings and over active ones. Assumes nothing.
+-- The steps of the walks over decks, over cards, over offered bindings and over active ones. Assumes nothing.
 use Rattle.std.specs.Prelude.{◌≡◌, ℕ, ◌+◌, ◌-◌, ◌<◌, ◌≤◌, List, [], ◌∷◌, ◌++◌, length, Option, MatchOption, IfSome}
 use Rattle.std.specs.Borrow.{Bor}
 use Rattle.std.specs.List.{slice_get}
 use Rattle.decks.specs.declared.Run.{Run}
 use Rattle.decks.specs.declared.DeckView.{DeckView}
+use Rattle.decks.specs.declared.CardView.{CardView}
 use Rattle.decks.specs.declared.BindingView.{BindingView}
 use Rattle.decks.specs.declared.Decks.{Decks}
+use Rattle.decks.specs.declared.Cards.{Cards}
 use Rattle.decks.specs.declared.Offers.{Offers}
 use Rattle.decks.specs.declared.Walked.{Walked}
 use Rattle.decks.specs.Model.{Deck, Binding, active_from}
-use Rattle.decks.specs.Views.{Numbered, Placed, opt, run, deck_of, binding_of}
-use Rattle.decks.specs.Handed.{DeckLies, BindingLies, OfferAt, FirstOffer}
+use Rattle.decks.specs.Views.{Numbered, Placed, opt, run, deck_of, card_of, binding_of}
+use Rattle.decks.specs.Handed.{DeckLies, CardLies, BindingLies, OfferAt, FirstOffer}
 
 -- the walk over the decks of a shelf that stands at place k
 abbrev pub decks_from : {S : Type 0} → Bor S → ℕ → Decks S
@@ -22,6 +24,18 @@ pub record DeckSteps {S : Type 0} (ds : List Deck) (n : Numbered) (w : Placed) (
   pub behind : MatchOption r (t ≡ s) (λ _. t ≡ decks_from s.shelf (s.next + 1))
   pub placed : IfSome r (λ v. v.address.place ≡ w.decks s.next)
   pub lies : IfSome r (DeckLies memory)
+
+-- the walk over the cards of a run that stands at place k
+abbrev pub cards_from : {S : Type 0} → Bor S → Run → ℕ → Cards S
+cards_from shelf cards k = record { shelf = shelf; cards = cards; next = k }
+
+-- the card at the place of a walk, in the memory at its own place, and the walk stands behind it; or no card is there
+pub record CardSteps {S : Type 0} (n : Numbered) (w : Placed) (memory : List ℕ) (s : Cards S) (r : Option CardView) (t : Cards S) : Type 0 where
+  pub means : opt (card_of n) r ≡ slice_get (run n.cards s.cards) s.next
+  pub behind : MatchOption r (t ≡ s) (λ _. t ≡ cards_from s.shelf s.cards (s.next + 1))
+  pub within : IfSome r (λ _. s.next < s.cards.count)
+  pub placed : IfSome r (λ v. (v.id.place, v.body.place) ≡ w.cards (s.cards.first + s.next))
+  pub lies : IfSome r (CardLies memory)
 
 -- the walk over the bindings of two runs, the one and then the other, that stands at place k
 abbrev pub offers_from : {S : Type 0} → Bor S → Run → Run → ℕ → Offers S

@@ -9,12 +9,12 @@
 ghost use Rattle.std.specs.Prelude.{◌≡◌, ℕ, ◌+◌, ◌-◌, ◌<◌, ◌≤◌, List, ◌++◌, map, length, take, IfSome, Some, None, OnSome};
 ghost use Rattle.std.specs.Iterator.{at_most};
 ghost use Rattle.std.specs.List.{range_with_len, slice_get};
-ghost use Rattle.decks.specs.Model.{Deck, deck_at, with_id, named, card_at, enter_of, offers, has, pressed};
+ghost use Rattle.decks.specs.Model.{Deck, deck_at, with_id, named, head, card_at, enter_of, offers, has, pressed};
 ghost use Rattle.decks.specs.ActiveLaw.{ActiveReads};
 ghost use Rattle.decks.specs.Allowances.{Allowed, DeckAllowed};
 ghost use Rattle.decks.specs.Views.{Numbered, Placed, Lies, opt, run, number_in, deck_of, card_of, binding_of, task_of, assignment_of};
 ghost use Rattle.decks.specs.Handed.{DeckLies, CardLies, BindingLies, AssignmentLies, number_among, DeckPlaced, CardBetween, CardPlaced, BindingPlaced, AssignmentPlaced};
-ghost use Rattle.decks.specs.Walk.{decks_from, DeckSteps, offers_from, offered, OfferSteps, ActiveSteps, Walks, StandsBefore};
+ghost use Rattle.decks.specs.Walk.{decks_from, DeckSteps, cards_from, CardSteps, offers_from, offered, OfferSteps, ActiveSteps, Walks, StandsBefore};
 
 mod words;
 
@@ -177,24 +177,63 @@ pub fn find_deck<'a, S: Shelf>(shelf: &'a S, address: &[u8]) -> Option<DeckView<
     Decks::of(shelf).find(|deck| deck.address.bytes == address)
 }
 
-/// The first card with an id, of those from a number up to another.
-fn card_with_id<'a, S: Shelf>(
-    shelf: &'a S,
-    from: usize,
-    to: usize,
-    id: &[u8],
-) -> Option<CardView<'a>>
-    ensures found { opt (card_of (S.Shelf.parts shelf.now)) result ≡ with_id (map (S.Shelf.parts shelf.now).cards (range_with_len from (to - from))) id.now }
-    ensures lies { IfSome result (CardLies (S.Shelf.memory shelf.now)) }
-    ensures placed { IfSome result (CardBetween (S.Shelf.parts shelf.now) (S.Shelf.places shelf.now) from to) }
-{
-    for c in from..to {
-        let card = shelf.card(c);
-        if card.id.bytes == id {
-            return Some(card);
+impl Run {
+    /// The number at place `k`, if there.
+    fn number(self, k: usize) -> Option<usize>
+        ensures value { result ≡ number_in self k }
+        ensures within { OnSome result (k < self.count) }
+        ensures few { OnSome result (k < 255) }
+    {
+        if k < self.count as usize {
+            Some(self.first as usize + k)
+        } else {
+            None
         }
     }
-    None
+}
+
+/// The cards of a run, from a place on, in their order.
+#[derive(Drop)]
+pub struct Cards<'a, S> {
+    pub shelf: &'a S,
+    pub cards: Run,
+    pub next: usize,
+}
+
+impl<'a, S> Cards<'a, S> {
+    /// The cards of a deck, from the first on.
+    pub fn of(shelf: &'a S, deck: &DeckView) -> Self
+        ensures { result ≡ cards_from shelf.entry deck.now.cards 0 }
+    {
+        Cards {
+            shelf,
+            cards: deck.cards,
+            next: 0,
+        }
+    }
+}
+
+impl<'a, S: Shelf> Iterator for Cards<'a, S> {
+    type Item = CardView<'a>;
+
+    ghost next_gives = { λ s r t. CardSteps (S.Shelf.parts s.shelf.now) (S.Shelf.places s.shelf.now) (S.Shelf.memory s.shelf.now) s r t };
+
+    ghost remaining = { λ s. at_most (s.cards.count - s.next) };
+
+    fn next(&mut self) -> Option<CardView<'a>> {
+        let number = self.cards.number(self.next)?;
+        self.next += 1;
+        Some(self.shelf.card(number))
+    }
+}
+
+/// The first card of a deck with an id.
+fn card_with_id<'a, S: Shelf>(shelf: &'a S, deck: &DeckView, id: &[u8]) -> Option<CardView<'a>>
+    ensures found { opt (card_of (S.Shelf.parts shelf.now)) result ≡ with_id (run (S.Shelf.parts shelf.now).cards deck.now.cards) id.now }
+    ensures lies { IfSome result (CardLies (S.Shelf.memory shelf.now)) }
+    ensures placed { IfSome result (CardPlaced (S.Shelf.parts shelf.now) (S.Shelf.places shelf.now) deck.now.cards) }
+{
+    Cards::of(shelf, deck).find(|card| card.id.bytes == id)
 }
 
 /// The first card that a fragment of one byte or more names.
@@ -206,8 +245,16 @@ fn card_named<'a, S: Shelf>(shelf: &'a S, deck: &DeckView, fragment: &[u8]) -> O
     if fragment.is_empty() {
         return None;
     }
-    let first = deck.cards.first as usize;
-    card_with_id(shelf, first, first + deck.cards.count as usize, fragment)
+    card_with_id(shelf, deck, fragment)
+}
+
+/// The first card of a deck, if it has one.
+fn first_card<'a, S: Shelf>(shelf: &'a S, deck: &DeckView) -> Option<CardView<'a>>
+    ensures found { opt (card_of (S.Shelf.parts shelf.now)) result ≡ head (run (S.Shelf.parts shelf.now).cards deck.now.cards) }
+    ensures lies { IfSome result (CardLies (S.Shelf.memory shelf.now)) }
+    ensures placed { IfSome result (CardPlaced (S.Shelf.parts shelf.now) (S.Shelf.places shelf.now) deck.now.cards) }
+{
+    Cards::of(shelf, deck).next()
 }
 
 /// The card that a fragment means: the first one that it names, else the deck's first card.
@@ -220,13 +267,11 @@ pub fn find_card<'a, S: Shelf>(
     ensures lies { IfSome result (CardLies (S.Shelf.memory shelf.now)) }
     ensures placed { IfSome result (CardPlaced (S.Shelf.parts shelf.now) (S.Shelf.places shelf.now) deck.now.cards) }
 {
+    // `or_else` was tried: the check doesn't see through its closure what `first_card` ensures.
     if let Some(card) = card_named(shelf, deck, fragment) {
-        Some(card)
-    } else if deck.cards.count > 0 {
-        Some(shelf.card(deck.cards.first as usize))
-    } else {
-        None
+        return Some(card);
     }
+    first_card(shelf, deck)
 }
 
 /// The number of the enter task: the card's own, else the template's, else none.
@@ -243,20 +288,6 @@ pub fn enter_task(deck: &DeckView, card: &CardView, way: Way) -> Option<u16>
         Some(t)
     } else {
         None
-    }
-}
-
-impl Run {
-    /// The number at place `k`, if there.
-    fn number(self, k: usize) -> Option<usize>
-        ensures value { result ≡ number_in self k }
-        ensures few { OnSome result (k < 255) }
-    {
-        if k < self.count as usize {
-            Some(self.first as usize + k)
-        } else {
-            None
-        }
     }
 }
 

@@ -29,11 +29,7 @@ fn task_if<S: Shelf>(shelf: &S, number: Option<u16>) -> Option<TaskView<'_>>
     ensures lies { IfSome result (TaskLies (S.Shelf.memory shelf.now)) }
     ensures placed { TaskPlaced (S.Shelf.places shelf.now) number result }
 {
-    if let Some(t) = number {
-        Some(shelf.task(t))
-    } else {
-        None
-    }
+    number.map(|t| shelf.task(t))
 }
 
 /// The answer at a card of a deck.
@@ -64,10 +60,7 @@ pub fn ask<'a, S: Shelf>(shelf: &'a S, address: &[u8], fragment: &[u8], name: &[
     ensures placed { AnswerPlaced (S.Shelf.decks shelf.now) (S.Shelf.parts shelf.now) (S.Shelf.places shelf.now) result }
 {
     let deck = find_deck(shelf, address);
-    let card = match &deck {
-        Some(deck) => find_card(shelf, deck, fragment),
-        None => None,
-    };
+    let card = deck.and_then(|deck| find_card(shelf, &deck, fragment));
     match (deck, card) {
         (Some(deck), Some(card)) => ask_card(shelf, deck, card, name),
         _ => Answer {

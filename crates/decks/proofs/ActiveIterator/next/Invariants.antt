@@ -5,7 +5,7 @@ use Rattle.decks.proofs.ActiveIterator.next.Given as goal
 
 abbrev pub invariant-loop-binding : goal.invariant-loop-binding
 invariant-loop-binding g l =
-    let o = l.initial.self.offers in
+    let o = l.fn.self.offers in
     let all = offered (g.S.Shelf.parts o.shelf.now) o in
     (l.self.offers ≡ offers_from o.shelf o.own o.shared l.self.offers.next)
     × (o.next ≤ l.self.offers.next)
