@@ -1,7 +1,5 @@
 use Rattle.std.proofs.Common.{length, get_or, take, sym, ap, ◌∙◌, arith, length-take}
-use Rattle.std.proofs.lemmas.List.{take_all}
 use Rattle.store.specs.Vars.{size, weight}
-use Rattle.slot_rows.specs.Rows.{reads}
 use Rattle.slot_rows.specs.Places.{no_slot}
 use Rattle.slot_rows.proofs.Rows.{counted, reads_no-more, size-reads, weight-reads, name-short, value-short}
 use Rattle.slot_rows.proofs.totals.Goals as goal
@@ -32,11 +30,3 @@ loop-i-preserved c =
           let e = sym (reads_no-more xs i c.loop-i-test.true (sym c.counts.ensures ∙ w.if-counts.false)) in
           (w.names-is ∙ (c.loop-i.invariant.0 ∙ ap size e), w.bytes-is ∙ (c.loop-i.invariant.1 ∙ ap weight e))
     ]
-
-pub returns : goal.returns
-returns c =
-    let t = take_all c.loop-i.i c.used-table.result.now c.loop-i-test.false in
-    record {
-      names = c.loop-i.invariant.0 ∙ ap (λ z. size (reads z)) (t ∙ c.used-table.ensures.front);
-      bytes = c.loop-i.invariant.1 ∙ ap (λ z. weight (reads z)) (t ∙ c.used-table.ensures.front);
-    }

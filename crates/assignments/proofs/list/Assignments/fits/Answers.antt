@@ -1,8 +1,5 @@
 use Rattle.std.proofs.Common.{◌≡◌, ℕ, Bool, ◌&&◌, leb, ap, ◌∙◌, arith}
-use Rattle.std.proofs.lemmas.List.{take_all}
-use Rattle.store.specs.Vars.{size, weight}
-use Rattle.assignments.specs.Joint.{put_all}
-use Rattle.assignments.specs.Pairs.{pairs_of, distinct}
+use Rattle.assignments.specs.Pairs.{distinct}
 use Rattle.assignments.proofs.Loops.{tally-can, tally-more}
 use Rattle.assignments.proofs.list.Assignments.fits.Goals as goal
 
@@ -21,9 +18,3 @@ loop-p-preserved g c =
     let s = c.args.store.now in
     let w = g.S.Store.lawful in
     tally-more (g.S.Store.meaning s) c.pairs-assigned.result.now c.loop-p.p-index _ _ _ _ c.p-item.result c.name-name.result.now c.value.result.now c.value-old.result.now (w.ordered s) (w.pairs s) (ap distinct c.pairs-assigned.ensures.listed ∙ c.args.self.now.apart) c.loop-p.invariant c.loop-p-test.true c.p-item.is c.name-name.ensures c.value.ensures c.value-old.ensures c.after-total.ensures.names c.after-total.ensures.bytes
-
-pub returns : goal.returns
-returns g c =
-    let m = g.S.Store.meaning c.args.store.now in
-    let t = ap pairs_of (take_all c.loop-p.p-index c.pairs-assigned.result.now c.loop-p-test.false) ∙ c.pairs-assigned.ensures.listed in
-    ruled _ _ _ _ _ _ _ _ _ c.within.ensures (c.loop-p.invariant.counted ∙ ap (λ z. size (put_all m z)) t) (c.loop-p.invariant.weighed ∙ ap (λ z. weight (put_all m z)) t) c.most_names.ensures c.most_bytes.ensures

@@ -1,24 +1,8 @@
 use Rattle.std.proofs.Common.{◌≤◌, length, take, ap, ◌∙◌, arith}
 use Rattle.assignments.specs.Pairs.{distinct}
 use Rattle.assignments.specs.Listed as named
-use Rattle.assignments.proofs.Adding.{within_list, taken, not_taken, distinct_without}
+use Rattle.assignments.proofs.Adding.{taken, not_taken, distinct_without}
 use Rattle.assignments.proofs.list.Assignments.remove.Goals as goal
-
-pub copy_within-requires-clause-start_le_end : goal.copy_within-requires-clause-start_le_end
-copy_within-requires-clause-start_le_end c =
-    let a = c.args.self.now in
-    let f = a.few in
-    let l : a.count ≤ length a.list = omega arith in
-    let b = within_list c.args.name.now a.list a.count c.in-Some.i c.in-Some.ensures l in
-    omega arith
-
-pub overflow_sub-self : goal.overflow_sub-self
-overflow_sub-self c =
-    let a = c.args.self.now in
-    let f = a.few in
-    let l : a.count ≤ length a.list = omega arith in
-    let b = within_list c.args.name.now a.list a.count c.in-Some.i c.in-Some.ensures l in
-    omega arith
 
 pub invariant_of-self : goal.invariant_of-self
 invariant_of-self c =

@@ -1,17 +1,12 @@
-use Rattle.std.proofs.Common.{◌≡◌, true, sym, refl, ap, ◌∙◌}
-use Rattle.std.proofs.lemmas.List.{at_drop_all}
+use Rattle.std.proofs.Common.{◌≡◌, true, ap, ◌∙◌}
 use Rattle.names.specs.Names.{storable}
 use Rattle.store.specs.Vars.{assign}
 use Rattle.store.proofs.Assigns.{verdict_ok}
 use Rattle.assignments.specs.Joint.{put_all}
-use Rattle.assignments.specs.Pairs.{name_of, pairs_of, distinct}
-use Rattle.assignments.specs.Unsetting.{lacks_all}
+use Rattle.assignments.specs.Pairs.{name_of}
 use Rattle.store.specs.Limits.{within}
 use Rattle.assignments.proofs.Loops.{granted, setting-fits, setting-more}
 use Rattle.assignments.proofs.list.Assignments.set_all.Goals as goal
-
-pub loop-p-init : goal.loop-p-init
-loop-p-init g c = record { limits = refl; towards = refl; unset = ap (lacks_all (g.S.Store.meaning c.args.store.now)) c.pairs-p-items.ensures.listed ∙ c.requires.unset; apart = ap distinct c.pairs-p-items.ensures.listed ∙ c.args.self.now.apart }
 
 pub loop-p-preserved : goal.loop-p-preserved
 loop-p-preserved g c =
@@ -31,8 +26,3 @@ loop-p-preserved g c =
     let ok = c.set.ensures.answer ∙ verdict_ok l m nm vl st f in
     let o = granted (g.S.Store.meaning c.set.new.self ≡ assign m nm vl) (c.set.new.self ≡ s) c.set.result ok c.set.ensures.outcome in
     setting-more l _ l0 m _ m0 xs i x nm vl c.loop-p.invariant h c.p-item.is c.name.ensures c.value.ensures c.set.ensures.limits o
-
-pub returns : goal.returns
-returns g c =
-    let m = g.S.Store.meaning c.loop-p.store in
-    record { limits = c.loop-p.invariant.limits; outcome = (sym (at_drop_all (λ z. put_all m (pairs_of z)) c.pairs-p-items.result.now c.loop-p.p-index c.loop-p-test.false) ∙ c.loop-p.invariant.towards) ∙ ap (put_all (g.S.Store.meaning c.args.store.now)) c.pairs-p-items.ensures.listed }

@@ -1,10 +1,8 @@
-use Rattle.std.proofs.Common.{◌≡◌, true, [], sym, ap, ◌∙◌}
-use Rattle.std.proofs.lemmas.List.{at_drop_all}
+use Rattle.std.proofs.Common.{◌≡◌, true, [], ap, ◌∙◌}
 use Rattle.names.specs.Names.{storable}
 use Rattle.store.specs.Vars.{assign}
 use Rattle.store.proofs.Assigns.{verdict_ok}
-use Rattle.assignments.specs.Unsetting.{without_all}
-use Rattle.assignments.specs.Pairs.{name_of, value_of, pairs_of}
+use Rattle.assignments.specs.Pairs.{name_of, value_of}
 use Rattle.assignments.proofs.Alls.{unset-fits, unset-storable}
 use Rattle.assignments.proofs.Loops.{granted, unset-step}
 use Rattle.assignments.proofs.list.Assignments.unset_all.Goals as goal
@@ -23,8 +21,3 @@ loop-p-preserved g c =
     let ok = c.set.ensures.answer ∙ verdict_ok l m nm [] st (unset-fits l m nm (w.few_names s) (w.few_bytes s)) in
     let o = granted (g.S.Store.meaning c.set.new.self ≡ assign m nm []) (c.set.new.self ≡ s) c.set.result ok c.set.ensures.outcome in
     (c.set.ensures.limits ∙ c.loop-p.invariant.0, unset-step m _ xs i x nm c.loop-p-test.true c.p-item.is c.name.ensures o ∙ c.loop-p.invariant.1)
-
-pub returns : goal.returns
-returns g c =
-    let m = g.S.Store.meaning c.loop-p.store in
-    record { limits = c.loop-p.invariant.0; outcome = (sym (at_drop_all (λ z. without_all m (pairs_of z)) c.pairs-p-items.result.now c.loop-p.p-index c.loop-p-test.false) ∙ c.loop-p.invariant.1) ∙ ap (without_all (g.S.Store.meaning c.args.store.now)) c.pairs-p-items.ensures.listed }
