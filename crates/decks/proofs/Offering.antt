@@ -1,12 +1,16 @@
 -- The steps of the walks over offered and over active bindings. Assumes nothing.
-use Rattle.std.proofs.Common.{◌≡◌, ℕ, ◌+◌, ◌-◌, ◌≤◌, true, false, take, Some, None, Option, List, sym, refl, ap, ◌∙◌, subst, arith}
+use Rattle.std.proofs.Common.{◌≡◌, ℕ, ◌+◌, ◌-◌, ◌≤◌, true, false, take, Some, None, Option, List, ◌++◌, sym, refl, ap, ◌∙◌, subst, arith}
+use Rattle.std.proofs.lemmas.Option.{slice_get_within}
+use denote.Ref.{Bor}
+use Rattle.decks.specs.declared.Run.{Run}
 use Rattle.decks.specs.declared.BindingView.{BindingView}
 use Rattle.decks.specs.declared.Offers.{Offers}
 use Rattle.decks.specs.Model.{has, active_from}
-use Rattle.decks.specs.Views.{Numbered, Placed, opt, binding_of}
+use Rattle.decks.specs.Views.{Numbered, Placed, opt, run, binding_of}
 use Rattle.decks.specs.Handed.{BindingLies, number_among}
 use Rattle.decks.specs.Walk.{offers_from, offered, OfferSteps, Steps, ActiveSteps}
-use Rattle.decks.proofs.Rests.{nth_among, nth-below}
+use Rattle.decks.proofs.Rests.{nth_among}
+use Rattle.decks.proofs.Finding.{WalksOver}
 use Rattle.decks.proofs.Walking.{stands, passed, over}
 
 module _ {S : Type 0} (n : Numbered) (w : Placed) (m : List ℕ) (s : Offers S) where
@@ -21,6 +25,11 @@ module _ {S : Type 0} (n : Numbered) (w : Placed) (m : List ℕ) (s : Offers S) 
     placed = record { number = number; among = sym e; there = t; place = p };
     lies = l;
   }
+
+-- it goes over the bindings of both runs
+pub offers-walk : {S : Type 0} (N : S → Numbered) (W : S → Placed) (M : S → List ℕ) (shelf : Bor S) (own shared : Run)
+    → WalksOver (λ (s : Offers S) r t. OfferSteps (N s.shelf.now) (W s.shelf.now) (M s.shelf.now) s r t) (binding_of (N shelf.now)) (run (N shelf.now).bindings own ++ run (N shelf.now).bindings shared) (offers_from shelf own shared)
+offers-walk N W M shelf own shared = record { some = λ k x t h. (h.behind, h.means); none = λ k t h. h.means }
 
 -- the walk over the active bindings from o on, which stands at s among the offered ones
 module _ {S : Type 0} (N : S → Numbered) (W : S → Placed) (M : S → List ℕ) (o s : Offers S)
@@ -60,7 +69,7 @@ module _ {S : Type 0} (N : S → Numbered) (W : S → Placed) (M : S → List �
         let before : (s.next + 1) - 1 ≡ s.next = omega arith in
         let first : Steps n all o.next v (s.next + 1) = record {
           later = omega (arith, later);
-          within = omega (arith, nth-below all s.next x k.means);
+          within = omega (arith, slice_get_within all s.next x (sym k.means));
           more = sym rest ∙ active;
           pinned = ap (active_from all) before ∙ active;
         } in

@@ -1,5 +1,5 @@
 -- What is left of a list, and of a run of numbers. Assumes nothing.
-use Rattle.std.proofs.Common.{◌≡◌, ℕ, zero, suc, ◌+◌, ◌-◌, ◌<◌, ◌≤◌, Bool, true, false, cond, eqb, ltb, List, [], ◌∷◌, ◌++◌, map, length, drop, Some, None, sym, refl, ap, ◌∙◌, ⊎_elim, append-nil, add-one, arith}
+use Rattle.std.proofs.Common.{◌≡◌, ℕ, zero, suc, ◌+◌, ◌-◌, ◌<◌, ◌≤◌, Bool, true, false, cond, eqb, ltb, List, [], ◌∷◌, ◌++◌, map, drop, Some, None, sym, refl, ap, ◌∙◌, ⊎_elim, append-nil, add-one, arith}
 use Rattle.std.specs.List.{range_with_len, slice_get}
 use Rattle.std.specs.Cmp.Lexicographic.{pointwise}
 use Rattle.std.specs.Str.{bytes_eq}
@@ -7,7 +7,6 @@ use Rattle.std.proofs.lemmas.Bool.{cond-true, cond-false, lt-ltb, le-ltb, cases_
 use Rattle.decks.specs.declared.Run.{Run}
 use Rattle.decks.specs.Views.{opt, run, number_in}
 use Rattle.decks.specs.Handed.{number_among}
-use Rattle.decks.specs.Model.{first, head}
 use Rattle.std.proofs.lemmas.Option.{slice_get_past}
 use Rattle.std.proofs.lemmas.List.FromFn.{length-map-range_with_len}
 
@@ -22,45 +21,9 @@ drop-none [] (suc k) e = refl
 drop-none (y ∷ ys) zero e = absurd (let z : ◌≡◌ {A = ℕ} 0 1 = cc in omega arith)
 drop-none (y ∷ ys) (suc k) e = drop-none ys k e
 
-pub nth-below : {X : Type 0} (xs : List X) (k : ℕ) (x : X) → Some x ≡ slice_get xs k → k < length xs
-nth-below [] k x e = absurd (let z : ◌≡◌ {A = ℕ} 0 1 = cc in omega arith)
-nth-below (y ∷ ys) zero x e = omega arith
-nth-below (y ∷ ys) (suc k) x e = omega (arith, nth-below ys k x e)
-
--- the numbers of a run from i on, up to e
-pub run_more : {X : Type 0} (f : ℕ → X) (i e : ℕ) → i < e → map f (range_with_len i (e - i)) ≡ f i ∷ map f (range_with_len (i + 1) (e - (i + 1)))
-run_more f i e h = let q : e - i ≡ suc (e - (i + 1)) = omega arith in rw q refl
-
-pub run_none : {X : Type 0} (f : ℕ → X) (i e : ℕ) → e ≤ i → map f (range_with_len i (e - i)) ≡ []
-run_none f i e h = let q : e - i ≡ 0 = omega arith in rw q refl
-
-pub first-here : {X : Type 0} (p : X → Bool) (rest more : List X) (x : X) → rest ≡ x ∷ more → p x ≡ true → first p rest ≡ Some x
-first-here p rest more x e t = ap (first p) e ∙ cond-true _ _ _ t
-
-pub first_on : {X : Type 0} (p : X → Bool) (rest more : List X) (x : X) → rest ≡ x ∷ more → p x ≡ false → first p rest ≡ first p more
-first_on p rest more x e t = ap (first p) e ∙ cond-false _ _ _ t
-
-pub first-end : {X : Type 0} (p : X → Bool) (rest : List X) → rest ≡ [] → first p rest ≡ None
-first-end p rest e = ap (first p) e
-
 -- `==` on slices
 pub same-is : (xs ys : List ℕ) (r : Bool) → r ≡ pointwise eqb xs ys → bytes_eq xs ys ≡ r
 same-is xs ys r m = sym m
-
--- a loop over a run that looks for the first that passes: y is what number i means
-module _ {X : Type 0} (p : X → Bool) (f : ℕ → X) (i e : ℕ) where
-  pub run-here : (y : X) → i < e → y ≡ f i → p y ≡ true → first p (map f (range_with_len i (e - i))) ≡ Some y
-  run-here y h q t = first-here p (map f (range_with_len i (e - i))) (map f (range_with_len (i + 1) (e - (i + 1)))) y (run_more f i e h ∙ ap (λ z. z ∷ map f (range_with_len (i + 1) (e - (i + 1)))) (sym q)) t
-
-  pub run_on : (y : X) → i < e → y ≡ f i → p y ≡ false → first p (map f (range_with_len i (e - i))) ≡ first p (map f (range_with_len (i + 1) (e - (i + 1))))
-  run_on y h q t = first_on p (map f (range_with_len i (e - i))) (map f (range_with_len (i + 1) (e - (i + 1)))) y (run_more f i e h ∙ ap (λ z. z ∷ map f (range_with_len (i + 1) (e - (i + 1)))) (sym q)) t
-
-  pub run_end : e ≤ i → first p (map f (range_with_len i (e - i))) ≡ None
-  run_end h = first-end p (map f (range_with_len i (e - i))) (run_none f i e h)
-
-pub head-run : {X : Type 0} (f : ℕ → X) (a n : ℕ) → 0 < n → Some (f a) ≡ head (map f (range_with_len a n))
-head-run f a zero h = absurd (omega arith)
-head-run f a (suc n) h = refl
 
 pub nth-run : {X : Type 0} (f : ℕ → X) (a n : ℕ) (ys : List X) (i : ℕ) → i < n → slice_get (map f (range_with_len a n) ++ ys) i ≡ Some (f (a + i))
 nth-run f a zero ys i h = absurd (omega arith)

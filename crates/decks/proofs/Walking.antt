@@ -1,9 +1,9 @@
 -- The active bindings, place by place. Assumes nothing.
-use Rattle.std.proofs.Common.{◌≡◌, ℕ, zero, suc, ◌+◌, ◌<◌, ◌≤◌, Bool, true, false, cond, ◌||◌, List, [], ◌∷◌, ◌++◌, take, drop, Some, None, sym, refl, ap, ◌∙◌, ⊎_elim, append_assoc, append-nil, add-one, arith}
+use Rattle.std.proofs.Common.{◌≡◌, ℕ, zero, suc, ◌+◌, Bool, true, false, cond, ◌||◌, List, [], ◌∷◌, ◌++◌, take, drop, Some, None, sym, refl, ap, ◌∙◌, ⊎_elim, append_assoc, append-nil, add-one, arith}
 use Rattle.std.specs.List.{slice_get, list_any}
 use Rattle.std.specs.Str.{bytes_eq}
 use Rattle.std.proofs.lemmas.Slice.Eq.{bytes_eq-Decides}
-use Rattle.std.proofs.lemmas.Bool.{cond-true, cond-false, cases_Bool, or_from, or_left, or_right, or_parts}
+use Rattle.std.proofs.lemmas.Bool.{cond-true, cond-false, cases_Bool, or_from, or_parts}
 use Rattle.decks.specs.Model.{Binding, first, has, actives, active_from}
 use Rattle.decks.specs.ActiveLaw.{lacking, ActiveReads}
 use Rattle.decks.proofs.Rests.{drop_at, drop-none}
@@ -19,25 +19,6 @@ has-++ [] b n h t = or_from _ _ t refl
 has-++ (a ∷ bs) b n h t =
     let q = or_parts (bytes_eq a.name n) (has bs n) h in
     or_from _ _ q.0 (has-++ bs b n q.1 t)
-
--- a look through the places before i
-pub none_more : (all : List Binding) (j : ℕ) (x : Binding) (n : List ℕ) → Some x ≡ slice_get all j → bytes_eq x.name n ≡ false → has (take j all) n ≡ false → has (take (j + 1) all) n ≡ false
-none_more all j x n e t h = ap (λ l. has l n) (take_at all j x e) ∙ has-++ (take j all) x n h t
-
-pub hit : (all : List Binding) (i j : ℕ) (x : Binding) (n : List ℕ) → j < i → Some x ≡ slice_get all j → bytes_eq x.name n ≡ true → has (take i all) n ≡ true
-hit [] i j x n h e t = absurd (let z : ◌≡◌ {A = ℕ} 0 1 = cc in omega arith)
-hit (y ∷ ys) zero j x n h e t = absurd (omega arith)
-hit (y ∷ ys) (suc i) zero x n h e t = let q : x ≡ y = cc in or_left _ _ (ap (λ z. bytes_eq z.name n) (sym q) ∙ t)
-hit (y ∷ ys) (suc i) (suc j) x n h e t = or_right _ _ (hit ys i j x n (omega arith) e t)
-
-pub none_end : (all : List Binding) (i j : ℕ) (n : List ℕ) → j ≤ i → None ≡ slice_get all j → has (take i all) n ≡ has (take j all) n
-none_end [] zero zero n h e = refl
-none_end [] zero (suc j) n h e = refl
-none_end [] (suc i) zero n h e = refl
-none_end [] (suc i) (suc j) n h e = refl
-none_end (y ∷ ys) i zero n h e = absurd (let z : ◌≡◌ {A = ℕ} 0 1 = cc in omega arith)
-none_end (y ∷ ys) zero (suc j) n h e = absurd (omega arith)
-none_end (y ∷ ys) (suc i) (suc j) n h e = ap (λ t. bytes_eq y.name n || t) (none_end ys i j n (omega arith) e)
 
 module _ (all : List Binding) (i : ℕ) where
   step : (x : Binding) → Some x ≡ slice_get all i → active_from all i ≡ cond (has (take i all) x.name) (active_from all (i + 1)) (x ∷ active_from all (i + 1))

@@ -9,7 +9,6 @@ use Rattle.decks.specs.declared.BindingView.{BindingView}
 use Rattle.decks.specs.declared.Decks.{Decks}
 use Rattle.decks.specs.declared.Cards.{Cards}
 use Rattle.decks.specs.declared.Offers.{Offers}
-use Rattle.decks.specs.declared.Walked.{Walked}
 use Rattle.decks.specs.Model.{Deck, Binding, active_from}
 use Rattle.decks.specs.Views.{Numbered, Placed, opt, run, deck_of, card_of, binding_of}
 use Rattle.decks.specs.Handed.{DeckLies, CardLies, BindingLies, OfferAt, FirstOffer}
@@ -65,11 +64,3 @@ pub record ActiveSteps {S : Type 0} (n : Numbered) (w : Placed) (memory : List �
   pub same : t ≡ offers_from s.shelf s.own s.shared t.next
   pub placed : IfSome r (FirstOffer n w s.own s.shared)
   pub lies : IfSome r (BindingLies memory)
-
--- none is active from place i on, or one is
-abbrev pub Walks : Numbered → List Binding → ℕ → Option Walked → Type 0
-Walks n all i r = MatchOption r (active_from all i ≡ []) (λ w. Steps n all i w.binding w.next)
-
--- a binding stands just before its next place: the active ones from there on are that binding and those after it
-abbrev pub StandsBefore : Numbered → List Binding → Walked → Type 0
-StandsBefore n all w = active_from all (w.next - 1) ≡ binding_of n w.binding ∷ active_from all w.next

@@ -14,7 +14,7 @@ ghost use Rattle.decks.specs.ActiveLaw.{ActiveReads};
 ghost use Rattle.decks.specs.Allowances.{Allowed, DeckAllowed};
 ghost use Rattle.decks.specs.Views.{Numbered, Placed, Lies, opt, run, number_in, deck_of, card_of, binding_of, task_of, assignment_of};
 ghost use Rattle.decks.specs.Handed.{DeckLies, CardLies, BindingLies, AssignmentLies, number_among, DeckPlaced, CardBetween, CardPlaced, BindingPlaced, AssignmentPlaced};
-ghost use Rattle.decks.specs.Walk.{decks_from, DeckSteps, cards_from, CardSteps, offers_from, offered, OfferSteps, ActiveSteps, Walks, StandsBefore};
+ghost use Rattle.decks.specs.Walk.{decks_from, DeckSteps, cards_from, CardSteps, offers_from, offered, OfferSteps, ActiveSteps};
 
 mod words;
 
@@ -388,42 +388,6 @@ impl<'a, S: Shelf> Iterator for Active<'a, S> {
             }
         }
     }
-}
-
-/// An active binding, with the place from which the walk goes on.
-#[derive(Clone, Copy)]
-pub struct Walked<'a> {
-    pub binding: BindingView<'a>,
-    pub next: usize,
-}
-
-/// The first active binding at place `i` or after it, among the card's bindings and then the
-/// template's: asked from place 0 on, the answers are the active bindings in their order.
-pub fn next_active<'a, S: Shelf>(
-    shelf: &'a S,
-    deck: &DeckView,
-    card: &CardView,
-    i: usize,
-) -> Option<Walked<'a>>
-    ensures walks { Walks (S.Shelf.parts shelf.now) (offers (deck_of (S.Shelf.parts shelf.now) deck.now) (card_of (S.Shelf.parts shelf.now) card.now)) i result }
-    ensures pinned { IfSome result (StandsBefore (S.Shelf.parts shelf.now) (offers (deck_of (S.Shelf.parts shelf.now) deck.now) (card_of (S.Shelf.parts shelf.now) card.now))) }
-    ensures reads { ActiveReads }
-    ensures lies { IfSome result (λ v. BindingLies (S.Shelf.memory shelf.now) v.binding) }
-    ensures placed { IfSome result (λ v. BindingPlaced (S.Shelf.parts shelf.now) (S.Shelf.places shelf.now) deck.now card.now v.binding) }
-{
-    let mut active = Active {
-        offers: Offers {
-            shelf,
-            own: card.bindings,
-            shared: deck.bindings,
-            next: i,
-        },
-    };
-    let binding = active.next()?;
-    Some(Walked {
-        binding,
-        next: active.offers.next,
-    })
 }
 
 /// The active binding of a name, if there.
