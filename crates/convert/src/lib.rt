@@ -100,14 +100,3 @@ pub fn copy<S: Sink>(value: &[u8], sink: &mut S)
         sink.put(*byte);
     }
 }
-
-/// Writes the value as it is from `at` on, and answers where it ends.
-pub fn copy_into(value: &[u8], out: &mut [u8], at: usize) -> usize
-    requires { at + length value.now ≤ length out.old }
-    ensures bytes { out.new ≡ sets out.old at value.now }
-    ensures end { result ≡ at + length value.now }
-{
-    let mut writer = Writer { buf: out, at };
-    copy(value, &mut writer);
-    writer.at
-}

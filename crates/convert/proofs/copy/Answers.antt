@@ -1,6 +1,6 @@
 use Rattle.std.proofs.Common.{refl}
-use Rattle.std.proofs.lemmas.List.{drop_more, drop_all}
-use Rattle.convert.proofs.Sending.{has_room, sent, done}
+use Rattle.std.proofs.lemmas.List.{drop_more}
+use Rattle.convert.proofs.Sending.{has_room, sent}
 use Rattle.convert.proofs.copy.Goals as goal
 
 pub put-requires : goal.put-requires
@@ -8,6 +8,3 @@ put-requires g c = has_room g.met.S.Sink.laws c.loop-byte.invariant (drop_more _
 
 pub loop-byte-preserved : goal.loop-byte-preserved
 loop-byte-preserved g c = sent g.met.S.Sink.laws c.loop-byte.invariant (drop_more _ _ 0 c.loop-byte-test.true) refl c.put.ensures
-
-pub returns : goal.returns
-returns g c = done g.met.S.Sink.laws c.loop-byte.invariant (drop_all _ _ c.loop-byte-test.false)

@@ -1,8 +1,6 @@
 use Rattle.std.proofs.Common.{sym, refl}
-use Rattle.std.proofs.lemmas.List.{at_drop_all}
-use Rattle.convert.specs.Escape.{escape}
 use Rattle.convert.proofs.Laws.{escape-kept, escape-coded}
-use Rattle.convert.proofs.Sending.{has_room, sent, done}
+use Rattle.convert.proofs.Sending.{has_room, sent}
 use Rattle.convert.proofs.escape.Goals as goal
 use Rattle.convert.proofs.escape.Goals.{then-is_kept, else-is_kept}
 
@@ -33,6 +31,3 @@ loop-b-preserved g c =
           let second = sent s first refl w.upper_digit.ensures w.put-else-is_kept-2.ensures in
           rw w.sink-is (sent s second refl w.upper_digit-else-is_kept.ensures w.put-else-is_kept-3.ensures)
     ]
-
-pub returns : goal.returns
-returns g c = done g.met.S.Sink.laws c.loop-b.invariant (at_drop_all escape c.args.value.now c.loop-b.b-index c.loop-b-test.false)

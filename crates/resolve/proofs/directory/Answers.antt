@@ -1,33 +1,10 @@
 -- `http://`, the host and the directory are a front of the address.
-use Rattle.std.proofs.Common.{◌≡◌, ◌+◌, length, take, sym, ap, ◌∙◌, arith}
-use Rattle.std.proofs.lemmas.List.{length-take-le}
+use Rattle.std.proofs.Common.{◌≡◌, ◌+◌, length, take, ap, ◌∙◌, arith}
 use Rattle.address.specs.Address.{host_of, path_of}
 use Rattle.address.specs.Resolve.{directory_of}
 use Rattle.address.specs.Meaning.{address_of}
-use Rattle.address.proofs.Runs.{parts_of}
-use Rattle.address.proofs.Parts.{deck-length, deck-within}
 use Rattle.resolve.proofs.Joining.{directory-front}
 use Rattle.resolve.proofs.directory.Goals as goal
-
-pub overflow_add-result-2 : goal.overflow_add-result-2
-overflow_add-result-2 c =
-    let a = address_of c.args.current.now in
-    let h = ap length c.host.ensures in
-    let p = ap length c.path.ensures in
-    let k = deck-length a c.args.current.now.holds in
-    let w = deck-within a in
-    let s = (parts_of a c.args.current.now.holds).short in
-    omega arith
-
-pub slice_bounds-result-end : goal.slice_bounds-result-end
-slice_bounds-result-end c =
-    let a = address_of c.args.current.now in
-    let h = ap length c.host.ensures in
-    let p = ap length c.path.ensures in
-    let b = ap length c.as_bytes.ensures in
-    let k = deck-length a c.args.current.now.holds in
-    let w = deck-within a in
-    sym (length-take-le ((7 + length c.host.result.now) + c.directory_len.result) c.as_bytes.result.now (omega arith))
 
 pub returns : goal.returns
 returns c =

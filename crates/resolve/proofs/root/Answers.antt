@@ -1,20 +1,9 @@
 -- `http://` and the host are a front of the address.
-use Rattle.std.proofs.Common.{◌≡◌, ◌+◌, length, take, sym, ap, ◌∙◌, arith}
-use Rattle.std.proofs.lemmas.List.{length-take-le}
+use Rattle.std.proofs.Common.{◌≡◌, ◌+◌, length, take, ap, ◌∙◌, arith}
 use Rattle.address.specs.Address.{host_of}
 use Rattle.address.specs.Meaning.{address_of}
-use Rattle.address.proofs.Parts.{deck-length, deck-within}
 use Rattle.resolve.proofs.Joining.{root-front}
 use Rattle.resolve.proofs.root.Goals as goal
-
-pub slice_bounds-result-end : goal.slice_bounds-result-end
-slice_bounds-result-end c =
-    let a = address_of c.args.current.now in
-    let h = ap length c.host.ensures in
-    let b = ap length c.as_bytes.ensures in
-    let k = deck-length a c.args.current.now.holds in
-    let w = deck-within a in
-    sym (length-take-le (7 + length c.host.result.now) c.as_bytes.result.now (omega arith))
 
 pub returns : goal.returns
 returns c =
