@@ -1,7 +1,7 @@
 use Rattle.std.proofs.Common.{sym, subst, arith}
 use Rattle.std.proofs.lemmas.Result.{err_from_is_err_and}
 use Rattle.decks.specs.Allowances.{AssignmentAllowed}
-use Rattle.taking.proofs.Gathering.{allowed_at, counted, gathers, faults-at, gathered-all, none_yet}
+use Rattle.taking.proofs.Gathering.{allowed_at, counted, gathers, faults-at, gathered-all}
 use Rattle.taking.proofs.gather.Goals as goal
 
 pub add_filled-requires : goal.add_filled-requires
@@ -17,9 +17,6 @@ pub returns-in_err-add_filled : goal.returns-in_err-add_filled
 returns-in_err-add_filled g c =
     let p = err_from_is_err_and c.from_residual.result c.from_residual.ensures.1 in
     rw (p.1, p.2) (faults-at _ _ _ _ _ _ c.loop-k.invariant _ _ c.loop-k-test.true c.assignment-given.ensures.means c.in_err-add_filled.ensures)
-
-pub loop-k-init : goal.loop-k-init
-loop-k-init g c = none_yet _ _ _ _ _ c.none-pairs.ensures
 
 pub loop-k-preserved : goal.loop-k-preserved
 loop-k-preserved g c =
