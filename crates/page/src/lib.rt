@@ -57,6 +57,9 @@ impl Drop for Line<'_> {
     }
 }
 
+// The buffer and the page's length go side by side here and below: a struct of both was tried, and has to promise in
+// each contract that its buffer is still the same one, of the same length, where `within` is one fact.
+
 /// Writes the line of a label after the page, or none.
 fn write_line<S: Store>(
     store: &S,
