@@ -7,7 +7,7 @@
 
 use anyhow::anyhow;
 use deck_text::Writer;
-use decks::{CardView, DeckView, Decks, Part, Run, Shelf, TaskView};
+use decks::{CardView, DeckView, Decks, Part, Run, Shelf, TaskView, assignment_of};
 use file_tables::FileTables;
 use judge::{deck_address, record_ok, size_of, stands_from};
 use shelf_file::FileShelf;
@@ -28,9 +28,10 @@ fn show_task<S: Shelf>(
     let kind = task.kind;
     let address = shown(&task.address);
     println!(rt; "    {word} {kind} {address}")?;
-    let first = task.assignments.first as usize;
-    for a in first..first + task.assignments.count as usize {
-        let assignment = shelf.assignment(a);
+    for k in 0..usize::from(task.assignments.count) {
+        let Some(assignment) = assignment_of(shelf, task, k) else {
+            break;
+        };
         let name = shown(&assignment.name);
         let value = shown(&assignment.value);
         println!(rt; "      set {name}={value}")?;
