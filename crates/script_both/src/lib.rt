@@ -192,6 +192,7 @@ impl<'a, P: Store + Drop, H: Shelf, Q: Store + Drop, K: Shelf> Pair<'a, P, H, Q,
                 let (first, second) = self.tickets()?;
                 self.tell((Ask::Follow(first), Ask::Follow(second)), Sort::Entering)
             }
+            (b"start" | b"press" | b"type", _) => Err(DeskError::Usage(USAGE)),
             (verb, [room, args @ ..]) => {
                 let size = size_of(room.as_slice()).ok_or(DeskError::Usage(USAGE))?;
                 self.read(size, Command { verb, args })
