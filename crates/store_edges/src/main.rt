@@ -188,7 +188,11 @@ fn slots_beside_packed(
 
 fn main(rt: HostRuntime) -> anyhow::Result<()> {
     let heap = rt.alloc();
-    let lines: Vec<String> = rt.lines(heap).try_collect(heap)?;
+    // The error of an item is anyhow's, so that a lack of memory is said here as by every other allocation.
+    let lines: Vec<String> = rt
+        .lines(heap)
+        .map(|line| line.map_err(anyhow::Error::from))
+        .try_collect(heap)?;
     let table = lines.as_slice();
     packed_runs(&rt, table)?;
     found_memory(&rt)?;
