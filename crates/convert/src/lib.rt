@@ -96,7 +96,5 @@ pub fn copy<S: Sink>(value: &[u8], sink: &mut S)
     requires { S.fits sink.old (length value.now) }
     ensures { S.takes sink.old value.now sink.new }
 {
-    for byte in value {
-        sink.put(*byte);
-    }
+    sink.put_all(value);
 }

@@ -16,6 +16,11 @@ pub trait Sink {
         requires { fits self.old 1 }
         ensures { takes self.old (byte ∷ []) self.new };
 
+    // The bytes, one after another.
+    fn put_all(&mut self, bytes: &[u8])
+        requires { fits self.old (length bytes.now) }
+        ensures { takes self.old bytes.now self.new };
+
     ghost laws: { SinkLaws takes fits };
 }
 
@@ -45,6 +50,10 @@ impl Sink for Counter {
 
     fn put(&mut self, byte: u8) {
         self.count = self.count.saturating_add(1);
+    }
+
+    fn put_all(&mut self, bytes: &[u8]) {
+        self.count = self.count.saturating_add(bytes.len());
     }
 }
 
@@ -78,5 +87,11 @@ impl<'a> Sink for Writer<'a> {
     fn put(&mut self, byte: u8) {
         self.buf[self.at] = byte;
         self.at += 1;
+    }
+
+    fn put_all(&mut self, bytes: &[u8]) {
+        let end = self.at + bytes.len();
+        self.buf[self.at..end].copy_from_slice(bytes);
+        self.at = end;
     }
 }
