@@ -81,7 +81,8 @@ impl Reader {
     }
 
     fn take(&mut self, b: u8) -> Result<(), ScriptError> {
-        if let Some(seen) = self.escape.take() {
+        if let Some(seen) = self.escape {
+            self.escape = None;
             return self.in_escape(seen, b);
         }
         match (self.place, b) {
@@ -144,15 +145,38 @@ pub fn words(heap: Global, line: &[u8]) -> Result<Vec<Vec<u8>>, ScriptError> {
 #[derive(Clone, Copy)]
 pub struct Quoted<'a>(pub &'a [u8]);
 
+/// Whether a byte stands for itself in quotes.
+fn is_plain(b: u8) -> bool {
+    matches!(b, 0x20..=0x7E) && b != b'"' && b != b'\\'
+}
+
+/// Writes bytes that are ASCII, all at once.
+fn write_ascii<W: fmt::Write>(f: &mut fmt::Formatter<W>, bytes: &[u8]) -> fmt::Result {
+    f.write_str(std::str::from_utf8(bytes).map_err(|_| fmt::Error)?)
+}
+
+const HEX_DIGITS: [u8; 16] = *b"0123456789ABCDEF";
+
+/// Writes a byte that doesn't stand for itself, as its escape.
+fn write_escape<W: fmt::Write>(f: &mut fmt::Formatter<W>, b: u8) -> fmt::Result {
+    match b {
+        b'"' => f.write_str("\\\""),
+        b'\\' => f.write_str("\\\\"),
+        _ => {
+            let high = HEX_DIGITS[usize::from(b / 16)];
+            let low = HEX_DIGITS[usize::from(b % 16)];
+            write_ascii(f, &[b'\\', b'x', high, low])
+        }
+    }
+}
+
 impl fmt::Display for Quoted<'_> {
     fn fmt<W: fmt::Write>(&self, f: &mut fmt::Formatter<W>) -> fmt::Result {
         f.write_str("\"")?;
-        for b in self.0 {
-            match *b {
-                b'"' => f.write_str("\\\"")?,
-                b'\\' => f.write_str("\\\\")?,
-                0x20..=0x7E => f.write_char(char::from(*b))?,
-                _ => write!(f, "\\x{b:02X}")?,
+        for run in self.0.chunk_by(|a, b| is_plain(*a) && is_plain(*b)) {
+            match run {
+                [b] if !is_plain(*b) => write_escape(f, *b)?,
+                _ => write_ascii(f, run)?,
             }
         }
         f.write_str("\"")
