@@ -19,7 +19,7 @@ use errands::{Errand, Need, Passed, Trip};
 use faults::CallFault;
 use history::History;
 use machine::Way;
-use places::{Place, find_place};
+use places::{ShelfPlace, find_place};
 use store::Store;
 
 /// A go adds its address to the history, a prev removes the newest.
@@ -33,24 +33,24 @@ fn travel(history: &mut History, trip: &Trip)
 }
 
 /// Whether arriving there begins anew: by a go, at a newcontext card.
-fn begins_anew<H: Shelf>(way: Way, place: &Place<H>) -> bool
+fn begins_anew<H: Shelf>(way: Way, place: &ShelfPlace<H>) -> bool
     ensures { result ≡ begins_anew way (place_of place.now).card }
 {
     match way {
-        Way::Forward => place.card.newcontext,
+        Way::Forward => place.place.card.newcontext,
         Way::Backward => false,
     }
 }
 
 impl<S: Store> Browser<S> {
     /// Enters the card: the history moves, and a card with an enter task gives a landed ticket.
-    fn enter<H: Shelf>(&mut self, trip: &Trip, place: &Place<H>) -> Step
+    fn enter<H: Shelf>(&mut self, trip: &Trip, place: &ShelfPlace<H>) -> Step
         ensures entered { tells (state_of S.Store.meaning self.new) (step_told result) [] ≡ enter_with (state_of S.Store.meaning self.old) [] (trip_of trip.now) (place_of place.now) (S.Store.meaning self.old.store) (kept self.old.history) }
         ensures store { self.new.store ≡ self.old.store }
         ensures unspent { UnspentStep result }
     {
         travel(&mut self.history, trip);
-        match enter_task(&place.deck, &place.card, trip.way) {
+        match enter_task(&place.place.deck, &place.place.card, trip.way) {
             Some(_) => {
                 self.errand = Errand::Landed(trip.way);
                 Step::Landed(LandedTicket::issue(self.number))
@@ -63,7 +63,7 @@ impl<S: Store> Browser<S> {
     }
 
     /// Clears variables and history on a go to a newcontext card, else makes the assignments; then the card is entered.
-    fn arrive_at<H: Shelf>(&mut self, trip: &Trip, place: &Place<H>) -> Result<Step, CallFault>
+    fn arrive_at<H: Shelf>(&mut self, trip: &Trip, place: &ShelfPlace<H>) -> Result<Step, CallFault>
         ensures arrived { tells (state_of S.Store.meaning self.new) (step_answer result) [] ≡ arrive_at (S.Store.limits self.old.store) (state_of S.Store.meaning self.old) [] (trip_of trip.now) (place_of place.now) }
         ensures limits { S.Store.limits self.new.store ≡ S.Store.limits self.old.store }
         ensures unspent { StepUnspent result }

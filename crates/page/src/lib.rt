@@ -14,7 +14,7 @@ ghost use Rattle.page.specs.Lines.{whole_line, line_answer, lengthened, outcome_
 ghost use Rattle.page.specs.Shown.{page_answer, page_bytes};
 
 use decks::{Active, BindingView, Kind, Shelf};
-use places::Place;
+use places::ShelfPlace;
 use store::Store;
 use text::{Mode, TextFault, fill};
 use variables::Variables;
@@ -121,7 +121,7 @@ fn write_label<S: Store, H: Shelf>(
 /// that does not fit ends the page.
 fn write_labels<S: Store, H: Shelf>(
     store: &S,
-    place: &Place<H>,
+    place: &ShelfPlace<H>,
     buf: &mut [u8],
     len: &mut usize,
 ) -> usize
@@ -131,7 +131,7 @@ fn write_labels<S: Store, H: Shelf>(
     ensures within { len.new ≤ length buf.new }
 {
     let mut labels = 0;
-    for binding in Active::of(place.shelf, &place.deck, &place.card) {
+    for binding in Active::of(place.shelf, &place.place.deck, &place.place.card) {
         match write_label(store, place.shelf, &binding, buf, len) {
             Outcome::Stands => labels += 1,
             Outcome::LeftOut => {}
@@ -155,14 +155,14 @@ fn blank(rest: &mut [u8])
 /// Refused, in this order and with `buf` as it was: a broken body, a buffer too short for the body.
 pub fn write_page<S: Store, H: Shelf>(
     store: &S,
-    place: &Place<H>,
+    place: &ShelfPlace<H>,
     buf: &mut [u8],
 ) -> Result<Shown, TextFault>
     ensures answer { result ≡ page_answer (S.Store.meaning store.now) (place_of place.now) (length buf.old) }
     ensures bytes { buf.new ≡ page_bytes (S.Store.meaning store.now) (place_of place.now) buf.old }
 {
     let values = Variables { store };
-    let mut len = fill(place.card.body.bytes, &values, Mode::Plain, buf)?;
+    let mut len = fill(place.place.card.body.bytes, &values, Mode::Plain, buf)?;
     let labels = write_labels(store, place, buf, &mut len);
     blank(&mut buf[len..]);
     Ok(Shown { len, labels })

@@ -5,21 +5,21 @@ ghost use Rattle.decks.specs.Allowances.{TaskAllowed};
 ghost use Rattle.decks.specs.Views.{task_of};
 ghost use Rattle.places.specs.Allowed.{seen, PlaceAllowed};
 
-use decks::{CardView, DeckView, Shelf, TaskView};
+use crate::Place;
+use decks::{Shelf, TaskView};
 use std::alloc::AllocError;
 
-/// A deck of a shelf, with one card of it.
-pub struct Place<'a, S: Shelf> {
+/// A place with the shelf that it is on, within its allowances.
+pub struct ShelfPlace<'a, S: Shelf> {
     pub shelf: &'a S,
-    pub deck: DeckView<'a>,
-    pub card: CardView<'a>,
-    pub ghost allowed: { PlaceAllowed (seen (S.Shelf.parts shelf.now) deck card) } by { Prim.hlevel props },
+    pub place: Place<'a>,
+    pub ghost allowed: { PlaceAllowed (seen (S.Shelf.parts shelf.now) place.deck place.card) } by { Prim.hlevel props },
 }
 
 // A derive would ask that the shelf itself can be copied.
-impl<S: Shelf> Copy for Place<'_, S> {}
+impl<S: Shelf> Copy for ShelfPlace<'_, S> {}
 
-impl<S: Shelf> Clone for Place<'_, S> {
+impl<S: Shelf> Clone for ShelfPlace<'_, S> {
     ghost is_clone = { λ x y. y ≡ x };
 
     ghost is_infallible = { λ _. Unit {0} };

@@ -33,7 +33,7 @@ loop-binding-init g c =
     let z = sym (ap (λ s. s.next) f) in (
       subst (λ i. Going vs (active_from all i) buf len 0 (take len buf ++ together lines) (length lines)) z (begun vs (active p.deck p.card) buf len c.requires),
       subst (λ i. AllByRecursion BindingAllowed (active_from all i)) z (active-kept p.deck p.card at.allowed.deck at.allowed.card),
-      f ∙ ap (offers_from at.shelf at.card.bindings at.deck.bindings) z,
+      f ∙ ap (offers_from at.shelf at.place.card.bindings at.place.deck.bindings) z,
       omega arith,
     )
 
@@ -46,7 +46,7 @@ write_label-requires g c =
     let i = c.loop-binding.binding-iterator.offers.next in
     let j = c.next.new.self.offers.next in
     let b = binding_of (g.H.Shelf.parts c.args.place.now.shelf.now) c.in-Some.binding in
-    let step = stepped g.H.Shelf.parts g.H.Shelf.places g.H.Shelf.memory c.args.place.now.shelf c.args.place.now.card.bindings c.args.place.now.deck.bindings c.loop-binding.binding-iterator.offers (Some c.in-Some.binding) c.next.new.self.offers h.2 c.in-Some.ensures.steps in
+    let step = stepped g.H.Shelf.parts g.H.Shelf.places g.H.Shelf.memory c.args.place.now.shelf c.args.place.now.place.card.bindings c.args.place.now.place.deck.bindings c.loop-binding.binding-iterator.offers (Some c.in-Some.binding) c.next.new.self.offers h.2 c.in-Some.ensures.steps in
     record { short = (subst (AllByRecursion BindingAllowed) step.walks.more h.1).0.label; within = h.0.within }
 
 -- there is no room for the next label
@@ -59,7 +59,7 @@ returns-in-NoRoom g c =
     let i = c.loop-binding.binding-iterator.offers.next in
     let j = c.next.new.self.offers.next in
     let b = binding_of (g.H.Shelf.parts c.args.place.now.shelf.now) c.in-Some.binding in
-    let step = stepped g.H.Shelf.parts g.H.Shelf.places g.H.Shelf.memory c.args.place.now.shelf c.args.place.now.card.bindings c.args.place.now.deck.bindings c.loop-binding.binding-iterator.offers (Some c.in-Some.binding) c.next.new.self.offers h.2 c.in-Some.ensures.steps in
+    let step = stepped g.H.Shelf.parts g.H.Shelf.places g.H.Shelf.memory c.args.place.now.shelf c.args.place.now.place.card.bindings c.args.place.now.place.deck.bindings c.loop-binding.binding-iterator.offers (Some c.in-Some.binding) c.next.new.self.offers h.2 c.in-Some.ensures.steps in
     let e = c.in-NoRoom.ensures in
     let s = stopped vs (active_from all i) b (active_from all j) c.loop-binding.buf c.write_label.new.buf c.loop-binding.len c.write_label.new.len c.loop-binding.labels _ _ step.walks.more h.0 e.outcome e.page in
     record { labels = s.1; page = s.0; within = e.within }
@@ -74,7 +74,7 @@ loop-binding-preserved-in-Stands g c =
     let i = c.loop-binding.binding-iterator.offers.next in
     let j = c.next.new.self.offers.next in
     let b = binding_of (g.H.Shelf.parts c.args.place.now.shelf.now) c.in-Some.binding in
-    let step = stepped g.H.Shelf.parts g.H.Shelf.places g.H.Shelf.memory c.args.place.now.shelf c.args.place.now.card.bindings c.args.place.now.deck.bindings c.loop-binding.binding-iterator.offers (Some c.in-Some.binding) c.next.new.self.offers h.2 c.in-Some.ensures.steps in
+    let step = stepped g.H.Shelf.parts g.H.Shelf.places g.H.Shelf.memory c.args.place.now.shelf c.args.place.now.place.card.bindings c.args.place.now.place.deck.bindings c.loop-binding.binding-iterator.offers (Some c.in-Some.binding) c.next.new.self.offers h.2 c.in-Some.ensures.steps in
     let e = c.in-Stands.ensures in (
       added vs (active_from all i) b (active_from all j) c.loop-binding.buf c.write_label.new.buf c.loop-binding.len c.write_label.new.len c.loop-binding.labels _ _ step.walks.more h.0 e.outcome e.within (omega (arith, c.write_label.auto.buf)) e.page,
       (subst (AllByRecursion BindingAllowed) step.walks.more h.1).1,
@@ -92,7 +92,7 @@ loop-binding-preserved g c =
     let i = c.loop-binding.binding-iterator.offers.next in
     let j = c.next.new.self.offers.next in
     let b = binding_of (g.H.Shelf.parts c.args.place.now.shelf.now) c.in-Some.binding in
-    let step = stepped g.H.Shelf.parts g.H.Shelf.places g.H.Shelf.memory c.args.place.now.shelf c.args.place.now.card.bindings c.args.place.now.deck.bindings c.loop-binding.binding-iterator.offers (Some c.in-Some.binding) c.next.new.self.offers h.2 c.in-Some.ensures.steps in
+    let step = stepped g.H.Shelf.parts g.H.Shelf.places g.H.Shelf.memory c.args.place.now.shelf c.args.place.now.place.card.bindings c.args.place.now.place.deck.bindings c.loop-binding.binding-iterator.offers (Some c.in-Some.binding) c.next.new.self.offers h.2 c.in-Some.ensures.steps in
     let e = c.in-LeftOut.ensures in (
       passed vs (active_from all i) b (active_from all j) c.loop-binding.buf c.write_label.new.buf c.loop-binding.len c.write_label.new.len c.loop-binding.labels _ _ step.walks.more h.0 e.outcome e.within (omega (arith, c.write_label.auto.buf)) e.page,
       (subst (AllByRecursion BindingAllowed) step.walks.more h.1).1,
@@ -106,6 +106,6 @@ returns g c =
     let p = place_of c.args.place.now in
     let vs = g.S.Store.meaning c.args.store.now in
     let h = c.loop-binding.invariant in
-    let step = stepped g.H.Shelf.parts g.H.Shelf.places g.H.Shelf.memory c.args.place.now.shelf c.args.place.now.card.bindings c.args.place.now.deck.bindings c.loop-binding.binding-iterator.offers None c.next.new.self.offers h.2 c.in-None.ensures.steps in
+    let step = stepped g.H.Shelf.parts g.H.Shelf.places g.H.Shelf.memory c.args.place.now.shelf c.args.place.now.place.card.bindings c.args.place.now.place.deck.bindings c.loop-binding.binding-iterator.offers None c.next.new.self.offers h.2 c.in-None.ensures.steps in
     let s = ended vs (active_from (offers p.deck p.card) c.loop-binding.binding-iterator.offers.next) c.loop-binding.buf c.loop-binding.len c.loop-binding.labels _ _ step.walks h.0 in
     record { labels = s.1; page = s.0; within = h.0.within }

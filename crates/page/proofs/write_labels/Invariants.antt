@@ -17,5 +17,5 @@ invariant-loop-binding g l =
     let lines = fitting (length l.initial.buf - l.initial.len) (lines_of vs (active p.deck p.card)) in
     Going vs rest l.buf l.len l.labels (take l.initial.len l.initial.buf ++ together lines) (length lines)
     × AllByRecursion BindingAllowed rest
-    × (s ≡ offers_from l.place.shelf l.place.card.bindings l.place.deck.bindings s.next)
+    × (s ≡ offers_from l.place.shelf l.place.place.card.bindings l.place.place.deck.bindings s.next)
     × (l.labels ≤ s.next)

@@ -1,7 +1,3 @@
-use Rattle.std.proofs.Common.{ap, ◌∙◌}
-use Rattle.address.specs.Address.{fragment_of}
-use Rattle.address.specs.Meaning.{address_of}
-use Rattle.decks.specs.Model.{card_at}
 use Rattle.decks.specs.Views.{deck_of, card_of}
 use Rattle.places.proofs.Finding.{card-allowed}
 use Rattle.places.proofs.find_place.Goals as goal
@@ -10,6 +6,5 @@ pub invariant_of-result : goal.invariant_of-result
 invariant_of-result g c =
     let n = g.S.Shelf.parts c.args.shelf.now in
     let d = deck_of n c.in_ok-deck.deck in
-    let f = fragment_of (address_of c.args.address.now) in
     let held = c.in_ok-deck.ensures.allowed in
-    record { allowed = record { deck = held; card = card-allowed d f (card_of n c.in_ok-card.card) held (c.in_ok-card.ensures.found ∙ ap (card_at d.cards) c.fragment.ensures) } }
+    record { allowed = record { deck = held; card = card-allowed d _ (card_of n c.in_ok-card.card) held c.in_ok-card.ensures.found } }

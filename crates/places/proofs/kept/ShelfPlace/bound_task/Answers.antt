@@ -3,7 +3,7 @@ use Rattle.decks.specs.Allowances.{TaskAllowed}
 use Rattle.decks.specs.Views.{binding_of}
 use Rattle.places.specs.Places.{place_of}
 use Rattle.places.proofs.Finding.{bound-allowed}
-use Rattle.places.proofs.kept.Place.bound_task.Goals as goal
+use Rattle.places.proofs.kept.ShelfPlace.bound_task.Goals as goal
 
 pub invariant_of-result : goal.invariant_of-result
 invariant_of-result g c =
