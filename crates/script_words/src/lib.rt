@@ -1,8 +1,10 @@
 //! The words of a script line, bytes as a script writes them, and the buffers that it lends.
 #![tactic(auto)]
 
+use arrayvec::ArrayString;
 use std::alloc::{AllocError, Global};
-use std::{fmt, mem};
+use std::fmt::{self, Write as _};
+use std::mem;
 use thiserror::Error;
 
 /// Why a line cannot be read.
@@ -145,27 +147,21 @@ pub fn words(heap: Global, line: &[u8]) -> Result<Vec<Vec<u8>>, ScriptError> {
 #[derive(Clone, Copy)]
 pub struct Quoted<'a>(pub &'a [u8]);
 
-/// Whether a byte stands for itself in quotes.
-fn is_plain(b: u8) -> bool {
-    matches!(b, 0x20..=0x7E) && b != b'"' && b != b'\\'
-}
-
-/// Writes bytes that are ASCII, all at once.
-fn write_ascii<W: fmt::Write>(f: &mut fmt::Formatter<W>, bytes: &[u8]) -> fmt::Result {
-    f.write_str(std::str::from_utf8(bytes).map_err(|_| fmt::Error)?)
-}
+/// So many bytes are escaped at once, each as four at most.
+const AT_ONCE: usize = 32;
 
 const HEX_DIGITS: [u8; 16] = *b"0123456789ABCDEF";
 
-/// Writes a byte that doesn't stand for itself, as its escape.
-fn write_escape<W: fmt::Write>(f: &mut fmt::Formatter<W>, b: u8) -> fmt::Result {
+/// Adds a byte as it stands in quotes.
+fn add_escaped(text: &mut ArrayString<128>, b: u8) -> fmt::Result {
     match b {
-        b'"' => f.write_str("\\\""),
-        b'\\' => f.write_str("\\\\"),
+        b'"' => text.write_str("\\\""),
+        b'\\' => text.write_str("\\\\"),
+        0x20..=0x7E => text.write_char(char::from(b)),
         _ => {
-            let high = HEX_DIGITS[usize::from(b / 16)];
-            let low = HEX_DIGITS[usize::from(b % 16)];
-            write_ascii(f, &[b'\\', b'x', high, low])
+            text.write_str("\\x")?;
+            text.write_char(char::from(HEX_DIGITS[usize::from(b / 16)]))?;
+            text.write_char(char::from(HEX_DIGITS[usize::from(b % 16)]))
         }
     }
 }
@@ -173,11 +169,12 @@ fn write_escape<W: fmt::Write>(f: &mut fmt::Formatter<W>, b: u8) -> fmt::Result 
 impl fmt::Display for Quoted<'_> {
     fn fmt<W: fmt::Write>(&self, f: &mut fmt::Formatter<W>) -> fmt::Result {
         f.write_str("\"")?;
-        for run in self.0.chunk_by(|a, b| is_plain(*a) && is_plain(*b)) {
-            match run {
-                [b] if !is_plain(*b) => write_escape(f, *b)?,
-                _ => write_ascii(f, run)?,
+        for bytes in self.0.chunks(AT_ONCE) {
+            let mut text = ArrayString::new();
+            for b in bytes {
+                add_escaped(&mut text, *b)?;
             }
+            f.write_str(&text)?;
         }
         f.write_str("\"")
     }
