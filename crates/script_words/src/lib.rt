@@ -70,22 +70,22 @@ impl Reader {
         Ok(())
     }
 
-    /// One byte more of an escape that has begun.
-    fn in_escape(&mut self, seen: Escape, b: u8) -> Result<(), ScriptError> {
+    /// One byte more of an escape that has begun, and what of it is seen then, unless it has ended.
+    fn in_escape(&mut self, seen: Escape, b: u8) -> Result<Option<Escape>, ScriptError> {
         match (seen, b) {
-            (Escape::Backslash, b'x') => self.escape = Some(Escape::Marked),
+            (Escape::Backslash, b'x') => return Ok(Some(Escape::Marked)),
             (Escape::Backslash, b'\\' | b'"') => self.word.push(b)?,
             (Escape::Backslash, _) => return Err(ScriptError::BadEscape),
-            (Escape::Marked, _) => self.escape = Some(Escape::High(hex_value(b)?)),
+            (Escape::Marked, _) => return Ok(Some(Escape::High(hex_value(b)?))),
             (Escape::High(high), _) => self.word.push(high << 4 | hex_value(b)?)?,
         }
-        Ok(())
+        Ok(None)
     }
 
     fn take(&mut self, b: u8) -> Result<(), ScriptError> {
         if let Some(seen) = self.escape {
-            self.escape = None;
-            return self.in_escape(seen, b);
+            self.escape = self.in_escape(seen, b)?;
+            return Ok(());
         }
         match (self.place, b) {
             (Place::Gap, b' ') => {}
