@@ -16,10 +16,15 @@ pub trait Sink {
         requires { fits self.old 1 }
         ensures { takes self.old (byte ∷ []) self.new };
 
-    // The bytes, one after another.
+    // The bytes, one after another: a put for each, where a sink has no faster body of its own.
     fn put_all(&mut self, bytes: &[u8])
         requires { fits self.old (length bytes.now) }
-        ensures { takes self.old bytes.now self.new };
+        ensures { takes self.old bytes.now self.new }
+    {
+        for byte in bytes {
+            self.put(*byte);
+        }
+    }
 
     ghost laws: { SinkLaws takes fits };
 }
@@ -93,5 +98,46 @@ impl<'a> Sink for Writer<'a> {
         let end = self.at + bytes.len();
         self.buf[self.at..end].copy_from_slice(bytes);
         self.at = end;
+    }
+}
+
+#[cfg(test)]
+mod tests {
+    use super::*;
+    use crate::{copy, escape, unescape};
+
+    /// A sink that takes a byte, and no more: the last eight that came, and how many it took.
+    #[derive(Clone, Copy)]
+    struct Last {
+        eight: u64,
+        taken: usize,
+    }
+
+    impl Sink for Last {
+        ghost use Rattle.std.specs.Prelude.{⊤};
+
+        ghost takes = { λ _ _ _. ⊤ };
+
+        ghost fits = { λ _ _. ⊤ };
+
+        ghost laws = { record { none = λ _. tt; more = λ _ _ _ _ _ _ _. tt; fewer = λ _ _ _ _. tt; left = λ _ _ _ _ _ _. tt } };
+
+        fn put(&mut self, byte: u8) {
+            self.eight = self.eight << 8 | u64::from(byte);
+            self.taken = self.taken.saturating_add(1);
+        }
+    }
+
+    #[test]
+    fn a_sink_of_single_bytes_takes_many(rt: HostRuntime) {
+        let mut last = Last { eight: 0, taken: 0 };
+        last.put_all(b"ab");
+        assert_eq!(rt; last.eight.to_be_bytes(), *b"\0\0\0\0\0\0ab");
+        last.put_all(b"");
+        copy(b"cde", &mut last);
+        escape(b"f ", &mut last);
+        unescape(b"%41", &mut last);
+        assert_eq!(rt; last.eight.to_be_bytes(), *b"cdef%20A");
+        assert_eq!(rt; last.taken, 10);
     }
 }
